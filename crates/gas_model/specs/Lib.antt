@@ -1,0 +1,9 @@
+pub mod Limits
+pub mod Rows
+pub mod Choices
+pub mod Curves
+pub mod Laws
+pub mod Points
+pub mod Near
+pub mod Texts
+pub mod Problems

@@ -1,0 +1,2 @@
+-- What a problem keeps.
+use Rattle.gas_model.specs.Rows.{Network}
