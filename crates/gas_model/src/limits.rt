@@ -1,7 +1,7 @@
 // The limits of the numbers and ids of a problem.
 ghost use Rattle.std.specs.Prelude.{◌≡◌};
 ghost use Rattle.std.specs.List.{list_all};
-ghost use Rattle.gas_model.specs.Limits.{is_id, is_id_byte, between, is_pressure, is_difference, is_flow, is_drag_part, is_ratio_part, is_ratio_within, is_drag_within, is_kind_within, is_node_within, is_arc_within};
+ghost use Rattle.gas_model.specs.Limits.{is_id, is_id_byte, between, is_pressure, is_difference, is_flow, is_drag_part, is_ratio_part, is_ratio_within, are_station_pressures, is_drag_within, is_kind_within, is_node_within, is_arc_within};
 
 use crate::rows::{ArcKind, ArcText, Drag, NodeRow};
 
@@ -96,6 +96,12 @@ fn is_control_within(in_min: i64, out_max: i64, red_min: i64, red_max: i64) -> b
         && is_difference(red_max)
 }
 
+fn are_station_pressures(in_min: i64, out_max: i64, rise_max: i64) -> bool
+    ensures { result ≡ are_station_pressures in_min out_max rise_max }
+{
+    is_difference(in_min) && is_pressure(out_max) && is_difference(rise_max)
+}
+
 fn is_station_within(
     in_min: i64,
     out_max: i64,
@@ -105,10 +111,7 @@ fn is_station_within(
 ) -> bool
     ensures { result ≡ is_kind_within (ArcKind.Station in_min out_max ratio_num ratio_den rise_max) }
 {
-    is_difference(in_min)
-        && is_pressure(out_max)
-        && is_ratio_within(ratio_num, ratio_den)
-        && is_difference(rise_max)
+    are_station_pressures(in_min, out_max, rise_max) && is_ratio_within(ratio_num, ratio_den)
 }
 
 /// Whether the numbers of a kind of arc lie in their limits.
