@@ -1,1 +1,4 @@
 pub mod PlaceFacts
+pub mod Remade
+pub mod Limited
+pub mod Listed

@@ -6,4 +6,6 @@ pub mod Laws
 pub mod Points
 pub mod Near
 pub mod Texts
+pub mod Within
+pub mod Incidence
 pub mod Problems

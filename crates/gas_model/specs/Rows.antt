@@ -126,19 +126,25 @@ group_fault arcs earlier g =
 abbrev pub groups_fault : List ArcText → List GroupText → Option ModelFault
 groups_fault arcs groups = first_offence (λ g. g) (group_fault arcs) [] groups
 
-abbrev pub count_fault : Rows → Option ModelFault
-count_fault rows =
-    if not (nat_le (length rows.nodes) 2000) then Some (fault.TooMany many.Nodes)
-    else if not (nat_le (length rows.arcs) 2000) then Some (fault.TooMany many.Arcs)
-    else if not (nat_le (length rows.groups) 256) then Some (fault.TooMany many.Groups)
-    else if not (list_all (λ g. nat_le (length g.decisions) 1024) rows.groups) then Some (fault.TooMany many.Decisions)
+-- too many nodes, or too many arcs
+abbrev pub count_fault : List NodeRow → List ArcText → Option ModelFault
+count_fault nodes arcs =
+    if not (nat_le (length nodes) 2000) then Some (fault.TooMany many.Nodes)
+    else if not (nat_le (length arcs) 2000) then Some (fault.TooMany many.Arcs)
+    else None
+
+-- too many groups, or too many decisions of one
+abbrev pub group_count_fault : List GroupText → Option ModelFault
+group_count_fault groups =
+    if not (nat_le (length groups) 256) then Some (fault.TooMany many.Groups)
+    else if not (list_all (λ g. nat_le (length g.decisions) 1024) groups) then Some (fault.TooMany many.Decisions)
     else None
 
 -- the first offence of rows: the counts, the nodes, the arcs, the groups
 abbrev pub rows_fault : Rows → Option ModelFault
 rows_fault rows =
-    option_or (count_fault rows) (option_or (nodes_fault rows.nodes)
-    (option_or (arcs_fault (node_ids rows.nodes) rows.arcs) (groups_fault rows.arcs rows.groups)))
+    option_or (count_fault rows.nodes rows.arcs) (option_or (group_count_fault rows.groups)
+    (option_or (nodes_fault rows.nodes) (option_or (arcs_fault (node_ids rows.nodes) rows.arcs) (groups_fault rows.arcs rows.groups))))
 
 -- an arc, with the places of its ends
 abbrev pub arc_of : List (List ℕ) → ArcText → ArcRow
@@ -198,8 +204,8 @@ is_pipe kind = false
 
 -- all arcs are pipes, and there are no groups
 pub record HasPipesAlone (rows : Rows) : Type 0 where
-  pub arcs : list_all (λ a. is_pipe a.kind) rows.arcs ≡ true
-  pub groups : rows.groups ≡ []
+  pub pipes : list_all (λ a. is_pipe a.kind) rows.arcs ≡ true
+  pub no_groups : rows.groups ≡ []
 
 -- an answer that isn't Ok is this one, unless memory ran out
 abbrev pub Fails : {Y : Type 0} → ModelFault → Result Y ModelFault → Type 0

@@ -2,13 +2,18 @@
 #![tactic(auto)]
 
 mod collections;
+mod faults;
+mod incidence;
 mod limits;
 mod places;
+mod placing;
+mod problem;
 mod rows;
 
 pub use collections::{Bytes, List, Name, NoMemory};
 pub use limits::{is_arc_within, is_id, is_kind_within, is_node_within};
 pub use places::Places;
+pub use problem::Problem;
 pub use rows::{
     Allow, ArcKind, ArcRow, ArcState, ArcText, Decision, DecisionText, Drag, Group, GroupText,
     Many, ModelFault, NodeRow, PartState, Rows, SetText, Setting, Var,

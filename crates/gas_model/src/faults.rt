@@ -1,0 +1,44 @@
+// The faults that name a row. Each may be want of memory in place of itself.
+ghost use Rattle.std.specs.Prelude.{Some};
+ghost use Rattle.gas_model.specs.Rows.{Tells};
+ghost use Rattle.gas_model.specs.declared.rows.ModelFault.TheVariants as fault;
+
+use crate::collections::Name;
+use crate::rows::ModelFault;
+use std::alloc::Global;
+
+pub fn over_limit(alloc: Global, id: &Name) -> ModelFault
+    ensures { Tells result (Some (fault.OverLimit id.now)) }
+{
+    match id.copy(alloc) {
+        Ok(id) => ModelFault::OverLimit { id },
+        Err(_) => ModelFault::NoMemory,
+    }
+}
+
+pub fn twice_named(alloc: Global, id: &Name) -> ModelFault
+    ensures { Tells result (Some (fault.TwiceNamed id.now)) }
+{
+    match id.copy(alloc) {
+        Ok(id) => ModelFault::TwiceNamed { id },
+        Err(_) => ModelFault::NoMemory,
+    }
+}
+
+pub fn no_such_node(alloc: Global, arc: &Name, id: &Name) -> ModelFault
+    ensures { Tells result (Some (fault.NoSuchNode arc.now id.now)) }
+{
+    match (arc.copy(alloc), id.copy(alloc)) {
+        (Ok(arc), Ok(id)) => ModelFault::NoSuchNode { arc, id },
+        _ => ModelFault::NoMemory,
+    }
+}
+
+pub fn same_ends(alloc: Global, arc: &Name) -> ModelFault
+    ensures { Tells result (Some (fault.SameEnds arc.now)) }
+{
+    match arc.copy(alloc) {
+        Ok(arc) => ModelFault::SameEnds { arc },
+        Err(_) => ModelFault::NoMemory,
+    }
+}
