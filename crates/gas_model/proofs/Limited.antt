@@ -1,5 +1,5 @@
 -- Rows without an offence lie within the limits.
-use Rattle.std.proofs.Common.{◌≡◌, ◌≢◌, ℕ, zero, suc, ◌<◌, ◌≤◌, ◌&&◌, ◌+◌, Bool, true, false, cond, not, List, [], ◌∷◌, ◌++◌, length, map, get_or, is_none, unwrap_or, Option, Some, None, refl, sym, ap, ◌∙◌, arith, leb}
+use Rattle.std.proofs.Common.{◌≡◌, ◌≢◌, ℕ, zero, suc, ◌<◌, ◌&&◌, Bool, true, false, cond, not, List, [], ◌∷◌, ◌++◌, length, map, get_or, is_none, unwrap_or, Option, Some, None, refl, sym, ap, ◌∙◌, arith, leb}
 use Rattle.std.specs.Prelude.{slice_get}
 use Rattle.std.specs.List.{list_all}
 use Rattle.std.specs.Option.{option_or, option_map}
@@ -14,8 +14,8 @@ use Rattle.gas_model.specs.declared.rows.ArcText.{ArcText}
 use Rattle.gas_model.specs.declared.rows.ArcRow.{ArcRow}
 use Rattle.gas_model.specs.declared.rows.Many.TheVariants as many
 use Rattle.gas_model.specs.declared.rows.ModelFault.TheVariants as fault
-use Rattle.gas_model.specs.Rows.{Network, node_ids, node_id, node_fault, nodes_fault, text_id, place, is_among, arc_of, arc_fault, arcs_fault, first_offence, count_fault, network_of, is_pipe}
-use Rattle.gas_model.specs.Limits.{is_id, is_flow, is_kind_within, is_node_within, is_arc_within}
+use Rattle.gas_model.specs.Rows.{node_ids, node_id, node_fault, nodes_fault, text_id, place, is_among, arc_of, arc_fault, arcs_fault, first_offence, count_fault, network_of, is_pipe}
+use Rattle.gas_model.specs.Limits.{is_node_within}
 use Rattle.gas_model.specs.Within.{IsWithin, is_row_within}
 use Rattle.gas_model.specs.Incidence.{AreEnds}
 use Rattle.gas_model.proofs.Remade.{both_none, passed, not_false, at_place, IsClean, clean_arc, ungrouped, network_fault}

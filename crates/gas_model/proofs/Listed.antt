@@ -1,6 +1,6 @@
 -- The arcs at each node, one arc at a time.
-use Rattle.std.proofs.Common.{◌≡◌, ◌≢◌, ℕ, zero, suc, ◌<◌, ◌+◌, inl, inr, sym, refl, ap, subst, Some, ◌∙◌, arith, Bool, true, false, List, [], ◌∷◌, ◌++◌, length, get_or, set, cond, take, get_or-set_same, get_or-set_other, length-set, add-one}
-use Rattle.std.specs.Prelude.{◌||◌, ◌==◌, slice_get}
+use Rattle.std.proofs.Common.{◌≡◌, ◌≢◌, ℕ, ◌<◌, ◌+◌, inl, inr, sym, refl, ap, subst, Some, ◌∙◌, arith, Bool, true, false, List, [], ◌∷◌, ◌++◌, length, get_or, cond, take, get_or-set_same, get_or-set_other, length-set}
+use Rattle.std.specs.Prelude.{slice_get}
 use Rattle.std.proofs.lemmas.Bool.{cases_eq, cases_lt}
 use Rattle.std.proofs.lemmas.Bool.Decides.{nat_tests}
 use Rattle.std.proofs.lemmas.List.{append-nil, length-append, length-take-le, take_more, get_or_append_left}
@@ -80,5 +80,5 @@ kept_turn lists one two nodes a arcs row ends lt is s e1 e2 =
     let more : take (a + 1) arcs ≡ take a arcs ++ row ∷ [] = take_more arcs a row lt ∙ ap (λ (r : ArcRow). take a arcs ++ r ∷ []) (sym is) in
     let next = kept_more lists nodes (take a arcs) row (ends.from a row here) (ends.to a row here) (ends.apart a row here) s in
     let same : noted (noted lists row.from (length (take a arcs))) row.to (length (take a arcs)) ≡ two =
-        ap (λ (k : ℕ). noted (noted lists row.from k) row.to k) size ∙ ap (λ (l : List (List ℕ)). noted l row.to a) (sym e1) ∙ sym e2 in
+    ap (λ (k : ℕ). noted (noted lists row.from k) row.to k) size ∙ ap (λ (l : List (List ℕ)). noted l row.to a) (sym e1) ∙ sym e2 in
     subst (λ (l : List (List ℕ)). KeepsArcsAt l nodes (take (a + 1) arcs)) same (subst (λ (rows : List ArcRow). KeepsArcsAt (noted (noted lists row.from (length (take a arcs))) row.to (length (take a arcs))) nodes rows) (sym more) next)

@@ -11,7 +11,7 @@ use Rattle.gas_model.specs.declared.rows.Group.{Group}
 use Rattle.gas_model.specs.declared.rows.Rows.{Rows}
 use Rattle.gas_model.specs.declared.rows.ModelFault.{ModelFault}
 use Rattle.gas_model.specs.declared.rows.ModelFault.TheVariants as fault
-use Rattle.gas_model.specs.Rows.{Network, node_ids, text_id, text_ids, place, is_among, arc_of, text_of, rows_of, arc_fault, arcs_fault, first_offence, rows_fault, count_fault, nodes_fault, groups_fault, group_count_fault, network_of, problem_of, answer, IsProblem}
+use Rattle.gas_model.specs.Rows.{node_ids, text_id, place, is_among, arc_of, text_of, rows_of, arc_fault, arcs_fault, first_offence, rows_fault, count_fault, nodes_fault, network_of, problem_of, answer, IsProblem}
 use Rattle.gas_model.specs.Limits.{is_arc_within}
 
 pub both_none : {A : Type 0} (a b : Option A) → option_or a b ≡ None → (a ≡ None) × (b ≡ None)

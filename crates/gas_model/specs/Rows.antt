@@ -1,5 +1,5 @@
 -- What rows make a problem, and the first offence of other rows.
-use Rattle.std.specs.Prelude.{◌≡◌, ℕ, ◌&&◌, ◌||◌, not, nat_le, List, [], ◌∷◌, ◌++◌, length, map, position, Bool, true, false, if◌then◌else◌, Option, Some, None, is_none, unwrap_or, option_and_then, Result, Ok, Err, slice_index_or, slice_get}
+use Rattle.std.specs.Prelude.{◌≡◌, ℕ, ◌||◌, not, nat_le, List, [], ◌∷◌, ◌++◌, length, map, position, Bool, true, false, if◌then◌else◌, Option, Some, None, is_none, unwrap_or, option_and_then, Result, Ok, Err, slice_index_or, slice_get}
 use Rattle.std.specs.List.{list_any, list_all, flat_map}
 use Rattle.std.specs.Str.{bytes_eq}
 use Rattle.std.specs.Option.{option_or, option_map_or}

@@ -1,5 +1,5 @@
 // Problems: rows within the limits, with positions in place of names.
-ghost use Rattle.std.specs.Prelude.{◌≡◌, ◌<◌, None, Some, length, replicate, slice_get, IfOk};
+ghost use Rattle.std.specs.Prelude.{◌≡◌, ◌<◌, Some, length, slice_get, IfOk};
 ghost use Rattle.gas_model.specs.Rows.{problem_of, Gives, HasPipesAlone, IsProblem};
 ghost use Rattle.gas_model.specs.Points.{arcs_at};
 ghost use Rattle.gas_model.specs.Choices.{fixed_state, fresh_part, PartFits};
@@ -109,19 +109,8 @@ impl Problem {
         ensures { IfOk result (λ part. part ≡ fresh_part self.now) }
     {
         Ok(PartState {
-            picks: unfixed(alloc, self.groups.as_slice().len())?,
-            states: unfixed(alloc, self.arcs.as_slice().len())?,
+            picks: List::filled(alloc, None, self.groups.as_slice().len())?,
+            states: List::filled(alloc, None, self.arcs.as_slice().len())?,
         })
     }
-}
-
-// As many items, none of them fixed.
-fn unfixed<T: Copy + Drop>(alloc: Global, count: usize) -> Result<List<Option<T>>, NoMemory>
-    ensures { IfOk result (λ items. items ≡ replicate count None) }
-{
-    let mut items = List::new(alloc);
-    for _ in 0..count {
-        items.push(None)?;
-    }
-    Ok(items)
 }

@@ -1,7 +1,6 @@
-use Rattle.std.proofs.Common.{◌≡◌, None, subst, length, map, ◌∙◌, ap}
+use Rattle.std.proofs.Common.{◌≡◌, None, subst, map}
 use Rattle.gas_model.specs.Rows.{node_ids, arc_of, IsProblem}
 use Rattle.gas_model.specs.Within.{IsWithin}
-use Rattle.gas_model.specs.Incidence.{KeepsArcsAt}
 use Rattle.gas_model.proofs.Limited.{limited, ends_limited}
 use Rattle.gas_model.proofs.Remade.{made, placed, network_fault}
 use Rattle.gas_model.proofs.problem.Problem.make.Goals as goal
