@@ -18,3 +18,6 @@ pub use rows::{
     Allow, ArcKind, ArcRow, ArcState, ArcText, Decision, DecisionText, Drag, Group, GroupText,
     Many, ModelFault, NodeRow, PartState, Rows, SetText, Setting, Var,
 };
+
+#[cfg(test)]
+mod tests;

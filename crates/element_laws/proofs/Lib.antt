@@ -1,0 +1,9 @@
+pub mod Curves
+pub mod Weymouth
+pub mod DropFits
+pub mod Widths
+pub mod Failing
+pub mod NearFits
+pub mod NetFlows
+pub mod Order
+pub mod NearLaws

@@ -1,0 +1,62 @@
+-- What the code of a resistance's law computes fits.
+use Rattle.std.proofs.Common.{◌*◌, ◌+◌, ◌^◌, lit≤, arith, ℤ, pos, ◌+ℤ◌, ◌-ℤ◌, ◌*ℤ◌, ◌≤ℤ◌, FitsSigned, w64, IsTrue}
+use Rattle.std.specs.Int.{w128}
+use borrow.Author.Differences.{fits_in}
+use Rattle.integer_laws.specs.Sizes.{IsWithin}
+use Rattle.integer_laws.proofs.Ring.{linear}
+use Rattle.integer_laws.proofs.SizeLemmas.{within_parts, one_part, within_fits, product_within, sum_within, difference_within, between_within}
+use Rattle.gas_model.specs.declared.rows.Drag.{Drag}
+use Rattle.gas_model.specs.Limits.{is_drag_within, is_flow, is_square}
+use Rattle.element_laws.proofs.DropFits.{drag_parts, part_from, part_most, part_size}
+
+square_from : (s : ℤ) → IsTrue (is_square s) → pos 0 ≤ℤ s
+square_from s t = grind (arith, linear)
+
+square_most : (s : ℤ) → IsTrue (is_square s) → s ≤ℤ pos (10 ^ 16)
+square_most s t = grind (arith, linear)
+
+pub square_size : (s : ℤ) → IsTrue (is_square s) → IsWithin (10 ^ 16) s
+square_size s t = between_within (10 ^ 16) s (square_from s t) (square_most s t)
+
+pub flow_size : (q : ℤ) → IsTrue (is_flow q) → IsWithin 1000000000000 q
+flow_size q t = grind (arith, linear, within_parts, one_part q)
+
+pub record NearFits (law : Drag) (tol q u v : ℤ) : Type 0 where
+  pub den_small : FitsSigned w64 law.den
+  pub den_wide : FitsSigned w128 law.den
+  pub tol_fits : FitsSigned w128 tol
+  pub q_fits : FitsSigned w128 q
+  pub u_fits : FitsSigned w128 u
+  pub v_fits : FitsSigned w128 v
+  pub drop : FitsSigned w128 (u -ℤ v)
+  pub more : FitsSigned w128 (u -ℤ v +ℤ tol)
+  pub less : FitsSigned w128 (u -ℤ v -ℤ tol)
+  pub above : FitsSigned w128 (law.den *ℤ (u -ℤ v +ℤ tol))
+  pub below : FitsSigned w128 (law.den *ℤ (u -ℤ v -ℤ tol))
+  pub flow : IsWithin 1000000000001 q
+
+pub near_fits : (law : Drag) (tol q u v : ℤ) → IsTrue (is_drag_within law) → IsTrue (is_square tol) → IsTrue (is_flow q) → IsTrue (is_square u) → IsTrue (is_square v) → NearFits law tol q u v
+near_fits law tol q u v l t f a b =
+    let part = (drag_parts law l).den in
+    let den = part_size law.den part in
+    let tol_size = square_size tol t in
+    let q_size = flow_size q f in
+    let u_size = square_size u a in
+    let v_size = square_size v b in
+    let drop_size = difference_within u v (10 ^ 16) (10 ^ 16) u_size v_size in
+    let more_size = sum_within (u -ℤ v) tol (10 ^ 16 + 10 ^ 16) (10 ^ 16) drop_size tol_size in
+    let less_size = difference_within (u -ℤ v) tol (10 ^ 16 + 10 ^ 16) (10 ^ 16) drop_size tol_size in
+    record {
+      den_small = fits_in w64 law.den (omega (arith, linear, part_from law.den part, part_most law.den part));
+      den_wide = within_fits (2 ^ 38) law.den den (lit≤ tt);
+      tol_fits = within_fits (10 ^ 16) tol tol_size (lit≤ tt);
+      q_fits = within_fits 1000000000000 q q_size (lit≤ tt);
+      u_fits = within_fits (10 ^ 16) u u_size (lit≤ tt);
+      v_fits = within_fits (10 ^ 16) v v_size (lit≤ tt);
+      drop = within_fits (10 ^ 16 + 10 ^ 16) (u -ℤ v) drop_size (lit≤ tt);
+      more = within_fits (10 ^ 16 + 10 ^ 16 + 10 ^ 16) (u -ℤ v +ℤ tol) more_size (lit≤ tt);
+      less = within_fits (10 ^ 16 + 10 ^ 16 + 10 ^ 16) (u -ℤ v -ℤ tol) less_size (lit≤ tt);
+      above = within_fits (2 ^ 38 * (10 ^ 16 + 10 ^ 16 + 10 ^ 16)) (law.den *ℤ (u -ℤ v +ℤ tol)) (product_within law.den (u -ℤ v +ℤ tol) (2 ^ 38) (10 ^ 16 + 10 ^ 16 + 10 ^ 16) den more_size) (lit≤ tt);
+      below = within_fits (2 ^ 38 * (10 ^ 16 + 10 ^ 16 + 10 ^ 16)) (law.den *ℤ (u -ℤ v -ℤ tol)) (product_within law.den (u -ℤ v -ℤ tol) (2 ^ 38) (10 ^ 16 + 10 ^ 16 + 10 ^ 16) den less_size) (lit≤ tt);
+      flow = omega (arith, q_size);
+    }

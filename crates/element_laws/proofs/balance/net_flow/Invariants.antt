@@ -1,0 +1,6 @@
+use Rattle.gas_model.specs.Near.{number_at}
+use Rattle.element_laws.proofs.NetFlows.{NetSums}
+use Rattle.element_laws.proofs.balance.net_flow.Given as goal
+
+abbrev pub invariant-loop-arc : goal.invariant-loop-arc
+invariant-loop-arc l = NetSums (number_at l.setting.flows) l.p.arcs l.node l.at l.arc-index l.total

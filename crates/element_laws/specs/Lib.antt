@@ -1,0 +1,4 @@
+pub mod Weymouth
+pub mod Failing
+pub mod Kept
+pub mod FirstBroken

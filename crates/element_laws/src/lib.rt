@@ -1,0 +1,15 @@
+//! The laws of arcs and nodes on whole-number settings: what a flow drops, and which law a setting breaks first.
+#![tactic(auto)]
+
+mod arcs;
+mod balance;
+mod bounds;
+mod broken;
+mod choices;
+mod drops;
+mod numbers;
+#[cfg(test)]
+mod tests;
+
+pub use broken::{Broken, first_broken};
+pub use drops::{drop_high, drop_low, interval_is_weymouth};

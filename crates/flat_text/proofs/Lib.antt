@@ -1,0 +1,4 @@
+pub mod Passing
+pub mod Spaced
+pub mod Spelled
+pub mod Whole

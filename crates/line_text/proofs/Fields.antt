@@ -1,0 +1,119 @@
+-- What a field's text reads as, and which text reads as a field.
+use Rattle.std.proofs.Common.{◌≡◌, ◌<◌, ◌≤◌, ◌^◌, ℕ, suc, List, [], ◌∷◌, ◌++◌, length, take, drop, take-append-drop, Bool, true, false, cond, not, ◌&&◌, Option, Some, None, ℤ, pos, negsuc, refl, sym, ap, ◌∙◌, arith, inl, inr}
+use Rattle.std.specs.Prelude.{◌==◌, nat_le, FitsSigned}
+use Rattle.std.specs.List.{list_all}
+use Rattle.std.specs.Char.{is_ascii_digit}
+use Rattle.std.specs.Fmt.{decimal, signed_decimal}
+use Rattle.std.specs.Int.{w64}
+use Rattle.std.specs.Str.{is_utf8}
+use Rattle.std.proofs.lemmas.Bool.{eqb-true, ne_eqb}
+use Rattle.std.proofs.lemmas.Bool.Decides.{leb_tells, nat_tests}
+use Rattle.std.proofs.lemmas.Fmt.{IsAscii-signed}
+use Rattle.std.proofs.lemmas.Int.{ints}
+use Rattle.std.proofs.lemmas.List.{take_at, drop_at}
+use Rattle.std.proofs.lemmas.Str.{IsUtf8-from_ascii, is_utf8-from_IsUtf8}
+use lib.Signed.{mag}
+use Rattle.line_text.specs.Lines.{HasNoFeed}
+use Rattle.line_text.specs.Numerals.{number_at, IsWithin}
+use Rattle.line_text.specs.Words.{◌>>=◌, word_len, field_at, number_field}
+use Rattle.line_text.proofs.Decimals.{decimal_form}
+use Rattle.line_text.proofs.Numbers.{number_again, number_takes, bound}
+
+-- no byte is a space, or one below it, as a line feed
+abbrev pub IsVisible : List ℕ → Type 0
+IsVisible w = list_all (λ b. nat_le 33 b) w ≡ true
+
+pub and_parts : (a b : Bool) → (a && b) ≡ true → (a ≡ true) × (b ≡ true)
+and_parts true true e = (refl, refl)
+and_parts true false e = absurd cc
+and_parts false b e = absurd cc
+
+above : (n b : ℕ) → nat_le n b ≡ true → n ≤ b
+above n b e = elim (leb_tells n b) [ inl h ↦ h.1 | inr h ↦ absurd (let f = h.0 in cc) ]
+
+other : (b c : ℕ) → c < 33 → nat_le 33 b ≡ true → (b == c) ≡ false
+other b c low e = ne_eqb b c (λ is. let le = above 33 b e in omega (arith, is, le, low))
+
+pub visible_no_feed : (w : List ℕ) → IsVisible w → HasNoFeed w
+visible_no_feed [] e = refl
+visible_no_feed (b ∷ w) e =
+    let p = and_parts (nat_le 33 b) (list_all (λ b. nat_le 33 b) w) e in
+    rw (other b 10 (omega arith) p.0) (visible_no_feed w p.1)
+
+-- a word goes up to the next space
+pub word_before : (w rest : List ℕ) → IsVisible w → word_len rest ≡ 0 → word_len (w ++ rest) ≡ length w
+word_before [] rest e h = h
+word_before (b ∷ w) rest e h =
+    let p = and_parts (nat_le 33 b) (list_all (λ b. nat_le 33 b) w) e in
+    rw (other b 32 (omega arith) p.0) (omega (arith, word_before w rest p.1 h))
+
+pub word_cut : (w rest : List ℕ) → IsVisible w → word_len rest ≡ 0 → (take (word_len (w ++ rest)) (w ++ rest) ≡ w) × (drop (word_len (w ++ rest)) (w ++ rest) ≡ rest)
+word_cut w rest e h = let len = word_before w rest e h in (rw len (take_at w rest (length w) refl), rw len (drop_at w rest (length w) refl))
+
+pub field_again : (w rest : List ℕ) → IsVisible w → 0 < length w → is_utf8 w ≡ true → word_len rest ≡ 0 → field_at (32 ∷ (w ++ rest)) ≡ Some (w, rest)
+unfolding field_at
+field_again w rest visible some text h =
+    let len = word_before w rest visible h in
+    let full : (length w == 0) ≡ false = ne_eqb (length w) 0 (λ e. omega (arith, e, some)) in
+    rw (len, full, take_at w rest (length w) refl, drop_at w rest (length w) refl, text) refl
+
+passed : {A : Type 0} (b : Bool) (o : Option A) (y : A) → cond b None o ≡ Some y → (b ≡ false) × (o ≡ Some y)
+passed true o y e = absurd cc
+passed false o y e = (refl, e)
+
+pub field_takes : (bytes w rest : List ℕ) → field_at bytes ≡ Some (w, rest) → bytes ≡ 32 ∷ (w ++ rest)
+unfolding field_at
+field_takes [] w rest e = absurd cc
+field_takes (c ∷ bs) w rest e =
+    let n = word_len bs in
+    let p = passed (not (c == 32)) _ (w, rest) e in
+    let q = passed (n == 0) _ (w, rest) p.1 in
+    let r = passed (not (is_utf8 (take n bs))) (Some (take n bs, drop n bs)) (w, rest) q.1 in
+    let same : (take n bs, drop n bs) ≡ (w, rest) = let h = r.1 in cc in
+    let space : c ≡ 32 = is_space (c == 32) refl p.0 in
+    let whole : bs ≡ w ++ rest = sym (take-append-drop n bs) ∙ ap (λ (x : List ℕ × List ℕ). x.0 ++ x.1) same in
+    ap (λ (b : ℕ). b ∷ bs) space ∙ ap (λ (x : List ℕ). 32 ∷ x) whole
+  where
+    is_space : (b : Bool) → (c == 32) ≡ b → not b ≡ false → c ≡ 32
+    is_space true t h = eqb-true c 32 t
+    is_space false t h = absurd cc
+
+-- ---- numbers
+
+digits_visible : (ds : List ℕ) → list_all is_ascii_digit ds ≡ true → IsVisible ds
+digits_visible [] e = refl
+digits_visible (d ∷ ds) e =
+    let p = and_parts (is_ascii_digit d) (list_all is_ascii_digit ds) e in
+    let q = and_parts (nat_le 48 d) (nat_le d 57) p.0 in
+    let le = above 48 d q.0 in
+    let high : nat_le 33 d ≡ true = grind (arith, nat_tests, le) in
+    rw high (digits_visible ds p.1)
+
+pub number_visible : (z : ℤ) → FitsSigned w64 z → IsVisible (signed_decimal z)
+number_visible (pos n) fits = digits_visible (decimal n) (decimal_form n (omega (arith, ints))).0
+number_visible (negsuc n) fits = digits_visible (decimal (suc n)) (decimal_form (suc n) (omega (arith, ints))).0
+
+number_some : (z : ℤ) → FitsSigned w64 z → 0 < length (signed_decimal z)
+number_some (pos n) fits = (decimal_form n (omega (arith, ints))).1
+number_some (negsuc n) fits = omega arith
+
+small : (z : ℤ) → FitsSigned w64 z → mag z < 2 ^ 63
+small (pos n) fits = omega (arith, ints)
+small (negsuc n) fits = omega (arith, ints)
+
+pub number_field_again : (z : ℤ) (rest : List ℕ) → FitsSigned w64 z → word_len rest ≡ 0 → number_field (32 ∷ (signed_decimal z ++ rest)) ≡ Some (z, rest)
+unfolding number_field
+number_field_again z rest fits h =
+    let text : is_utf8 (signed_decimal z) ≡ true = is_utf8-from_IsUtf8 _ (IsUtf8-from_ascii _ (IsAscii-signed z (small z fits))) in
+    rw (field_again (signed_decimal z) rest (number_visible z fits) (number_some z fits) text h, number_again z fits) refl
+
+pub number_field_takes : (bytes : List ℕ) (z : ℤ) (rest : List ℕ) → number_field bytes ≡ Some (z, rest) → IsWithin z → bytes ≡ 32 ∷ (signed_decimal z ++ rest)
+unfolding number_field
+number_field_takes bytes z rest e within =
+    let f = bound (λ f. number_at f.0 >>= λ n. Some (n, f.1)) (field_at bytes) (z, rest) e in
+    let n = bound (λ n. Some (n, f.0.1)) (number_at f.0.0) (z, rest) f.2 in
+    let same : (n.0, f.0.1) ≡ (z, rest) = let h = n.2 in cc in
+    let value : n.0 ≡ z = ap (λ (x : ℤ × List ℕ). x.0) same in
+    let behind : f.0.1 ≡ rest = ap (λ (x : ℤ × List ℕ). x.1) same in
+    field_takes bytes f.0.0 f.0.1 f.1 ∙ ap (λ (x : List ℕ). 32 ∷ (f.0.0 ++ x)) behind
+    ∙ ap (λ (x : List ℕ). 32 ∷ (x ++ rest)) (number_takes f.0.0 z (n.1 ∙ ap (λ x. Some x) value) within)

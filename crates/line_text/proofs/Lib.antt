@@ -1,0 +1,5 @@
+pub mod Decimals
+pub mod Numbers
+pub mod Places
+pub mod Cuts
+pub mod Fields

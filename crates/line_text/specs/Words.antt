@@ -1,0 +1,33 @@
+-- The words of a line, parted by one space.
+use Rattle.std.specs.Prelude.{ℕ, ◌==◌, not, List, [], ◌∷◌, ◌++◌, take, drop, if◌then◌else◌, Option, Some, None, option_and_then, ℤ}
+use Rattle.std.specs.List.{position_or_len, flat_map}
+use Rattle.std.specs.Str.{is_utf8}
+use Rattle.line_text.specs.Numerals.{number_at}
+
+infixl 10 ◌>>=◌
+abbrev pub ◌>>=◌ : {A B : Type 0} → Option A → (A → Option B) → Option B
+o >>= f = option_and_then f o
+
+-- how many bytes come before the first space
+abbrev pub word_len : List ℕ → ℕ
+word_len bytes = position_or_len (λ b. b == 32) bytes
+
+-- a word and its fields, each after one space
+abbrev pub joined : List ℕ → List (List ℕ) → List ℕ
+joined word fields = word ++ flat_map (λ field. 32 ∷ field) fields
+
+-- a space, and the text after it, which isn't empty, up to the next space; and what comes after it
+unfoldable pub field_at : List ℕ → Option (List ℕ × List ℕ)
+field_at [] = None
+field_at (c ∷ rest) =
+    if not (c == 32) then None
+    else if word_len rest == 0 then None
+    else if not (is_utf8 (take (word_len rest) rest)) then None
+    else Some (take (word_len rest) rest, drop (word_len rest) rest)
+
+-- a field that is a number, and what comes after it
+unfoldable pub number_field : List ℕ → Option (ℤ × List ℕ)
+number_field bytes = do
+  field ← field_at bytes
+  number ← number_at field.0
+  Some (number, field.1)

@@ -1,0 +1,13 @@
+//! Lines of text: cut after a line feed, into words parted by one space, with whole numbers among them.
+#![tactic(auto)]
+
+mod lines;
+mod numerals;
+mod words;
+
+pub use lines::cut_line;
+pub use numerals::{number_at, put_number, put_position, size_at};
+pub use words::{cut_word, field_at, number_field};
+
+#[cfg(test)]
+mod tests;

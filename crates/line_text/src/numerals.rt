@@ -1,0 +1,119 @@
+// Whole numbers as text: `0`, or digits with no zero in front, after a `-` where the number is below 0.
+ghost use Rattle.std.specs.Prelude.{true, ◌≡◌, ◌≢◌, ◌<◌, ◌∷◌, ◌++◌, ◌^◌, ◌-◌, ℤ, pos, neg_ℤ, min, length, ℕ, List, Some, None, IsTrue, MatchOption, IfSome, OnOk, OnErr, FitsSigned, decimal, option_map, option_and_then};
+ghost use Rattle.std.specs.Fmt.{signed_decimal};
+ghost use Rattle.std.specs.Int.{w64};
+ghost use Rattle.std.specs.List.{list_all};
+ghost use Rattle.std.specs.Char.{is_ascii_digit};
+ghost use Rattle.std.specs.Str.Parse.{digits_value};
+ghost use Rattle.line_text.specs.Numerals.{is_numeral, up_to_max, below_zero, size_at, number_at, IsWithin};
+
+use gas_model::{Bytes, NoMemory};
+use itoa::Buffer;
+
+fn are_digits(bytes: &[u8]) -> bool
+    ensures { result ≡ list_all is_ascii_digit bytes.now }
+{
+    bytes.iter().all(|b| b.is_ascii_digit())
+}
+
+/// Digits with no needless zero in front.
+fn is_numeral(digits: &str) -> bool
+    ensures { result ≡ is_numeral digits.now }
+{
+    let bytes = digits.as_bytes();
+    are_digits(bytes) && !bytes.is_empty() && (bytes[0] != b'0' || bytes.len() == 1)
+}
+
+/// The size that digits write, up to the greatest of 64 bits.
+fn size_of(digits: &str) -> u64
+    requires digits { list_all is_ascii_digit digits.now ≡ true }
+    requires some { 0 < length digits.now }
+    ensures { result ≡ min (digits_value 10 digits.now) (2 ^ 64 - 1) }
+{
+    match digits.parse::<u64>() {
+        Ok(n) => n,
+        Err(_) => u64::MAX,
+    }
+}
+
+/// A size as a number.
+fn up_to_max(size: Option<u64>) -> Option<i64>
+    ensures { result ≡ option_map up_to_max size }
+{
+    let size = size?;
+    if size <= i64::MAX as u64 {
+        Some(size as i64)
+    } else {
+        Some(i64::MAX)
+    }
+}
+
+/// Minus a size, which isn't 0.
+fn below_zero(size: Option<u64>) -> Option<i64>
+    ensures { result ≡ option_and_then below_zero size }
+{
+    let size = size?;
+    if size == 0 {
+        None
+    } else if size <= i64::MAX as u64 {
+        Some(-(size as i64))
+    } else {
+        Some(i64::MIN)
+    }
+}
+
+/// The number that a word of digits is: `0`, or digits with no zero in front. A word of another form is none.
+/// A number past 64 bits counts as the greatest of 64 bits.
+pub fn size_at(word: &str) -> Option<u64>
+    ensures exact { result ≡ size_at word.now }
+    // What is spelled is read.
+    ensures spelled { (n : ℕ) → n < 2 ^ 64 → word.now ≡ decimal n → result ≡ Some n }
+    // What is read was spelled so.
+    ensures read { IfSome result (λ n. n < 2 ^ 64 - 1 → word.now ≡ decimal n) }
+{
+    if is_numeral(word) {
+        Some(size_of(word))
+    } else {
+        None
+    }
+}
+
+fn after_minus(word: &str) -> Option<&str>
+    ensures { MatchOption result
+        ((rest : List ℕ) → word.now ≢ 45 ∷ rest)
+        (λ x. word.now ≡ 45 ∷ x.now) }
+{
+    word.strip_prefix('-')
+}
+
+/// The number that a word is: `0`, or digits with no zero in front, after a `-` where it is below 0. A word of
+/// another form, as `-0`, `00` or `+1`, is none. A number past 64 bits counts as the nearest of 64 bits.
+pub fn number_at(word: &str) -> Option<i64>
+    ensures exact { result ≡ number_at word.now }
+    // What is spelled is read.
+    ensures spelled { (z : ℤ) → FitsSigned w64 z → word.now ≡ signed_decimal z → result ≡ Some z }
+    // What is read was spelled so.
+    ensures read { IfSome result (λ z. IsWithin z → word.now ≡ signed_decimal z) }
+{
+    match after_minus(word) {
+        Some(digits) => below_zero(size_at(digits)),
+        None => up_to_max(size_at(word)),
+    }
+}
+
+/// Writes a position at the end: its digits, with no zero in front. An error leaves the bytes as before.
+pub fn put_position(out: &mut Bytes, position: u32) -> Result<(), NoMemory>
+    ensures ok { OnOk result (out.new ≡ out.old ++ decimal position) }
+    ensures err { OnErr result (out.new ≡ out.old) }
+{
+    out.append(Buffer::new().format(position).as_bytes())
+}
+
+/// Writes a number at the end: its digits with no zero in front, after a `-` where it is below 0. An error leaves
+/// the bytes as before.
+pub fn put_number(out: &mut Bytes, number: i64) -> Result<(), NoMemory>
+    ensures ok { OnOk result (out.new ≡ out.old ++ signed_decimal number) }
+    ensures err { OnErr result (out.new ≡ out.old) }
+{
+    out.append(Buffer::new().format(number).as_bytes())
+}

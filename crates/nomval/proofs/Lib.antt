@@ -1,0 +1,5 @@
+pub mod EmptySquares
+pub mod NoPoint
+pub mod ZeroFits
+pub mod Refused
+pub mod Parts

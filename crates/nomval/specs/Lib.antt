@@ -1,0 +1,6 @@
+pub mod Words
+pub mod Lines
+pub mod Exits
+pub mod Opening
+pub mod Zero
+pub mod Answers

@@ -1,0 +1,19 @@
+//! All that the program does: the words of the command line, files in, a file out, a line said.
+#![tactic(auto)]
+
+mod answer;
+mod command;
+mod lines;
+mod opening;
+mod solve;
+mod status;
+mod undisturbed;
+mod words;
+mod zero;
+
+pub use command::run;
+pub use status::{InputFile, Status};
+pub use undisturbed::run_undisturbed;
+
+#[cfg(test)]
+mod tests;

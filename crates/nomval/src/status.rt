@@ -1,0 +1,51 @@
+// How a command ended.
+ghost use Rattle.std.specs.Prelude.{◌≡◌};
+ghost use Rattle.nomval.specs.Exits.{exit_of};
+
+/// An input file of a command.
+#[derive(Clone, Copy, Debug, PartialEq, Eq)]
+pub enum InputFile {
+    /// The flat problem.
+    Flat,
+}
+
+/// How a command ended.
+#[derive(Clone, Copy, Debug, PartialEq, Eq)]
+pub enum Status {
+    /// OUT holds a setting that carries the nomination within the tolerance.
+    Accepted,
+    /// OUT holds a refutation tree: nothing carries the nomination.
+    Rejected,
+    /// Neither was found. No file was made.
+    Unfinished,
+    /// The words aren't in plain form: no plain words begin as these do up to the word of this number, from 0.
+    Usage { at: u64 },
+    /// The problem file isn't the text of a problem of nodes and pipes.
+    Unread,
+    /// The file is longer than 67,108,864 bytes.
+    TooLong { file: InputFile },
+    /// An input file could not be read.
+    ReadFault,
+    /// Memory could not be had.
+    NoMemory,
+    /// OUT or the line could not be written.
+    WriteFault,
+}
+
+impl Status {
+    /// The exit status of the program.
+    pub fn exit(&self) -> u8
+        ensures { result ≡ exit_of self.now }
+    {
+        match self {
+            Status::Accepted => 0,
+            Status::Rejected => 1,
+            Status::Unfinished => 2,
+            Status::Usage { .. } => 64,
+            Status::Unread | Status::TooLong { .. } => 65,
+            Status::ReadFault => 66,
+            Status::NoMemory => 71,
+            Status::WriteFault => 74,
+        }
+    }
+}
