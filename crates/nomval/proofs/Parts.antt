@@ -3,9 +3,10 @@ use Rattle.std.proofs.Common.{◌≡◌, ◌⊎◌, inl, inr, ◌∙◌, refl, L
 use Rattle.std.proofs.lemmas.List.{append-nil}
 use Rattle.gas_model.specs.Rows.{Network}
 use Rattle.gas_desk.specs.Outside.{Outside, SameFiles}
+use Rattle.gas_desk.specs.Whole.{HoldsFrontOf}
 use Rattle.nomval.specs.declared.status.Status.{Status}
 use Rattle.nomval.specs.declared.status.Status.TheVariants.{Accepted, Rejected, Unfinished, Usage, Unread, TooLong, ReadFault, NoMemory, WriteFault}
-use Rattle.nomval.specs.Answers.{Carries, Refutes, Writes, WritesPart, HoldsPart, MakesNoFile}
+use Rattle.nomval.specs.Answers.{Carries, Refutes, HoldsProblem, Writes, WritesPart, HoldsPart, MakesNoFile}
 use Rattle.nomval.specs.Words.{Files}
 
 -- where no file changed since, OUT still holds that part
@@ -37,3 +38,11 @@ part_after (TooLong file) files before mid now a r u p same = kept files before 
 part_after ReadFault files before mid now a r u p same = kept files before mid now same (inl (u tt files.out))
 part_after NoMemory files before mid now a r u p same = kept files before mid now same (p (inr refl))
 part_after WriteFault files before mid now a r u p same = kept files before mid now same (p (inl refl))
+
+-- what OUT holds where the writing of a text stopped
+pub part_of_text : (files : Files) (p : Network) (text piece : List ℕ) (before mid now : Outside)
+    → HoldsProblem files.problem before p → Carries p text ⊎ Refutes p text → piece ≡ text → SameFiles before mid
+    → (now.files files.out ≡ mid.files files.out) ⊎ HoldsFrontOf files.out piece now → HoldsPart files before now
+part_of_text files p text piece before mid now stands is_text same kept (inl e) = inl (e ∙ kept files.out)
+part_of_text files p text piece before mid now stands is_text same kept (inr h) =
+    inr (record { problem = p; text = text; stands = stands; is_text = is_text; held = (h.0, h.1, h.2, h.3 ∙ same) })

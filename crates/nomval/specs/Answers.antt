@@ -2,7 +2,6 @@
 use Rattle.std.specs.Prelude.{◌≡◌, ◌⊎◌, ◌≤◌, ℕ, ℤ, pos, List, length, None, Some, Ok, Err}
 use Rattle.std.specs.Borrow.{Bor}
 use Rattle.gas_model.specs.declared.rows.Var.{Var}
-use Rattle.gas_model.specs.declared.rows.Setting.{Setting}
 use Rattle.gas_model.specs.Rows.{Network}
 use Rattle.gas_model.specs.Points.{IsInfeasible}
 use Rattle.gas_model.specs.Near.{IsNear}
@@ -28,11 +27,10 @@ limit = 67108864
 abbrev pub tolerance : ℤ
 tolerance = pos 100000000
 
--- the text is that of one setting, which carries the problem within the tolerance
+-- no variable is empty, and the text is that of one setting, the zero setting, which carries the problem within the tolerance
 pub record Carries (p : Network) (text : List ℕ) : Type 0 where
-  pub setting : Setting
-  pub near : IsNear p tolerance setting
-  pub written : text ≡ setting_text p setting
+  pub near : IsNear p tolerance (zero_setting p)
+  pub written : text ≡ setting_text p (zero_setting p)
   pub not_empty : first_empty p ≡ None
 
 -- the text is that of a tree which closes the opening box by an empty variable, and nothing meets the problem

@@ -94,6 +94,8 @@ pub fn run<D: Desk>(alloc: Global, words: &[&str], desk: &mut D) -> Status
     ensures complete { D.tells → (files : Files) (p : Network) → IsUndisturbed words.now files (D.outside desk.old) (D.outside desk.new)
         → HoldsProblem files.problem (D.outside desk.old) p
         → (result ≡ Status.Accepted) ⊎ ((result ≡ Status.Rejected) ⊎ ((result ≡ Status.Unfinished) ⊎ (result ≡ Status.NoMemory))) }
+    ensures due_unfinished { D.tells → (files : Files) → IsUndisturbed words.now files (D.outside desk.old) (D.outside desk.new)
+        → LeavesOpen files (D.outside desk.old) → (result ≡ Status.Unfinished) ⊎ (result ≡ Status.NoMemory) }
     ensures due_unread { D.tells → (files : Files) → IsUndisturbed words.now files (D.outside desk.old) (D.outside desk.new)
         → HoldsNone files.problem (D.outside desk.old) → (result ≡ Status.Unread) ⊎ (result ≡ Status.NoMemory) }
     ensures due_too_long { D.tells → (files : Files) → IsUndisturbed words.now files (D.outside desk.old) (D.outside desk.new)

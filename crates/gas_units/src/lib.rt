@@ -1,0 +1,15 @@
+//! Exact numbers of gas network files: decimals, units, their whole grid values, quotients and roots.
+//!
+//! The grid counts pressures in whole Pa and flows in whole l/h. No call takes memory.
+#![tactic(auto)]
+
+mod decimal;
+mod grid;
+mod whole;
+
+pub use decimal::{Decimal, NumFault, faults_are_first, form_is_decimal, read_decimal};
+pub use grid::{Side, Unit, read_unit, to_grid};
+pub use whole::{ceil_div, floor_div, root_down, root_up};
+
+#[cfg(test)]
+mod tests;
