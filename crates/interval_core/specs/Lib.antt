@@ -1,0 +1,3 @@
+pub mod Enclosures
+pub mod Isotony
+pub mod Squares
