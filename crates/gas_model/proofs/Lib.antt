@@ -2,3 +2,8 @@ pub mod PlaceFacts
 pub mod Remade
 pub mod Limited
 pub mod Listed
+pub mod Decided
+pub mod GroupTurns
+pub mod RuledWords
+pub mod Ruled
+pub mod FixedStates

@@ -90,11 +90,14 @@ only states = None
 abbrev pub named_state : List (Option ArcState) → ℕ → Option ArcState
 named_state states a = slice_index_or states a None
 
+-- the state of a kind that is fixed: its only one, or the one named, or the only one that passes the test
+abbrev pub fixed_under : ArcKind → Option ArcState → (ArcState → Bool) → Option ArcState
+fixed_under kind named left = option_or (only (states_of kind)) (option_or named (only (filter left (states_of kind))))
+
 -- the state of the arc a that is fixed: that of a kind with one state, or the one named, or the only one that the picked decisions allow
 abbrev pub fixed_state : Network → PartState → ℕ → ArcRow → Option ArcState
 fixed_state p part a row =
-    option_or (only (states_of row.kind)) (option_or (named_state part.states a)
-    (only (filter (λ state. list_all (λ word. allows word state) (words_for p.groups part.picks a)) (states_of row.kind))))
+    fixed_under row.kind (named_state part.states a) (λ state. list_all (λ word. allows word state) (words_for p.groups part.picks a))
 
 -- a part state for the problem: its lists have the problem's lengths, its picks are in range, each state that it names is one of the arc's kind
 pub record PartFits (p : Network) (part : PartState) : Type 0 where

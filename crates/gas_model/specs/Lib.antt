@@ -1,11 +1,14 @@
 pub mod Limits
 pub mod Rows
 pub mod Choices
+pub mod Rulings
 pub mod Curves
 pub mod Laws
 pub mod Points
+pub mod Boxes
 pub mod Near
 pub mod Texts
 pub mod Within
+pub mod Placing
 pub mod Incidence
 pub mod Problems

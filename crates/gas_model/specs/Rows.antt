@@ -1,5 +1,5 @@
 -- What rows make a problem, and the first offence of other rows.
-use Rattle.std.specs.Prelude.{◌≡◌, ℕ, ◌||◌, not, nat_le, List, [], ◌∷◌, ◌++◌, length, map, position, Bool, true, false, if◌then◌else◌, Option, Some, None, is_none, unwrap_or, option_and_then, Result, Ok, Err, slice_index_or, slice_get}
+use Rattle.std.specs.Prelude.{◌≡◌, ℕ, ◌||◌, ◌==◌, not, nat_le, List, [], ◌∷◌, ◌++◌, length, map, position, Bool, true, false, if◌then◌else◌, Option, Some, None, is_none, unwrap_or, option_and_then, Result, Ok, Err, slice_index_or, slice_get}
 use Rattle.std.specs.List.{list_any, list_all, flat_map}
 use Rattle.std.specs.Str.{bytes_eq}
 use Rattle.std.specs.Option.{option_or, option_map_or}
@@ -34,6 +34,10 @@ place names id = position (bytes_eq id) names
 -- whether an id is among these
 abbrev pub is_among : List (List ℕ) → List ℕ → Bool
 is_among names id = list_any (bytes_eq id) names
+
+-- the same names are among both lists
+abbrev pub SameNames : List (List ℕ) → List (List ℕ) → Type 0
+SameNames xs ys = (id : List ℕ) → is_among xs id ≡ is_among ys id
 
 -- the first offence in a list, where the check of an item sees the keys of the items before it
 abbrev pub first_offence : {A K F : Type 0} → (A → K) → (List K → A → Option F) → List K → List A → Option F
@@ -95,6 +99,9 @@ takes (Loss low high) word = false
 abbrev pub arc_takes : List ArcText → SetText → Bool
 arc_takes arcs s = option_map_or (λ a. takes a.kind s.allow) (option_and_then (slice_get arcs) (place (text_ids arcs) s.arc)) false
 
+abbrev pub set_key : SetText → List ℕ
+set_key s = s.arc
+
 -- what is wrong with a word for an arc, after words for these arcs in its decision and in the groups before
 abbrev pub set_fault : List ArcText → List ℕ → List (List ℕ) → List (List ℕ) → SetText → Option ModelFault
 set_fault arcs group decided earlier s =
@@ -108,19 +115,33 @@ abbrev pub decision_fault : List ArcText → List ℕ → List (List ℕ) → Li
 decision_fault arcs group decided earlier d =
     if not (is_id d.id) then Some (fault.OverLimit d.id)
     else if is_among earlier d.id then Some (fault.TwiceNamed d.id)
-    else first_offence (λ s. s.arc) (set_fault arcs group decided) [] d.sets
+    else first_offence set_key (set_fault arcs group decided) [] d.sets
+
+abbrev pub decision_key : DecisionText → List ℕ
+decision_key d = d.id
+
+abbrev pub group_ids : List GroupText → List (List ℕ)
+group_ids groups = map (λ g. g.id) groups
+
+-- the arcs of which a group speaks
+abbrev pub decided_in : GroupText → List (List ℕ)
+decided_in g = flat_map (λ d. map set_key d.sets) g.decisions
 
 -- the arcs that groups decide
 abbrev pub decided_by : List GroupText → List (List ℕ)
-decided_by groups = flat_map (λ g. flat_map (λ d. map (λ s. s.arc) d.sets) g.decisions) groups
+decided_by groups = flat_map decided_in groups
+
+-- what is wrong with a group, after groups of these ids which decide these arcs
+abbrev pub group_fault_after : List ArcText → List (List ℕ) → List (List ℕ) → GroupText → Option ModelFault
+group_fault_after arcs ids decided g =
+    if not (is_id g.id) then Some (fault.OverLimit g.id)
+    else if is_among ids g.id then Some (fault.TwiceNamed g.id)
+    else if length g.decisions == 0 then Some (fault.EmptyGroup g.id)
+    else first_offence decision_key (decision_fault arcs g.id decided) [] g.decisions
 
 -- what is wrong with a group, after these groups
 abbrev pub group_fault : List ArcText → List GroupText → GroupText → Option ModelFault
-group_fault arcs earlier g =
-    if not (is_id g.id) then Some (fault.OverLimit g.id)
-    else if is_among (map (λ e. e.id) earlier) g.id then Some (fault.TwiceNamed g.id)
-    else if nat_le (length g.decisions) 0 then Some (fault.EmptyGroup g.id)
-    else first_offence (λ d. d.id) (decision_fault arcs g.id (decided_by earlier)) [] g.decisions
+group_fault arcs earlier g = group_fault_after arcs (group_ids earlier) (decided_by earlier) g
 
 -- the first offence of groups
 abbrev pub groups_fault : List ArcText → List GroupText → Option ModelFault
@@ -140,19 +161,25 @@ group_count_fault groups =
     else if not (list_all (λ g. nat_le (length g.decisions) 1024) groups) then Some (fault.TooMany many.Decisions)
     else None
 
+-- the first offence of rows that aren't too many: the nodes, the arcs, the groups
+abbrev pub uncounted_fault : Rows → Option ModelFault
+uncounted_fault rows =
+    option_or (nodes_fault rows.nodes) (option_or (arcs_fault (node_ids rows.nodes) rows.arcs) (groups_fault rows.arcs rows.groups))
+
 -- the first offence of rows: the counts, the nodes, the arcs, the groups
 abbrev pub rows_fault : Rows → Option ModelFault
-rows_fault rows =
-    option_or (count_fault rows.nodes rows.arcs) (option_or (group_count_fault rows.groups)
-    (option_or (nodes_fault rows.nodes) (option_or (arcs_fault (node_ids rows.nodes) rows.arcs) (groups_fault rows.arcs rows.groups))))
+rows_fault rows = option_or (count_fault rows.nodes rows.arcs) (option_or (group_count_fault rows.groups) (uncounted_fault rows))
 
 -- an arc, with the places of its ends
 abbrev pub arc_of : List (List ℕ) → ArcText → ArcRow
 arc_of nodes a = record { id = a.id; from = unwrap_or (place nodes a.from) 0; to = unwrap_or (place nodes a.to) 0; q_min = a.q_min; q_max = a.q_max; kind = a.kind }
 
--- a decision and a group, with the places of their arcs
+-- a set, a decision and a group, with the places of their arcs
+abbrev pub set_of : List (List ℕ) → SetText → ℕ × Allow
+set_of arcs s = (unwrap_or (place arcs s.arc) 0, s.allow)
+
 abbrev pub decision_of : List (List ℕ) → DecisionText → Decision
-decision_of arcs d = record { id = d.id; sets = map (λ s. (unwrap_or (place arcs s.arc) 0, s.allow)) d.sets }
+decision_of arcs d = record { id = d.id; sets = map (set_of arcs) d.sets }
 
 abbrev pub group_of : List (List ℕ) → GroupText → Group
 group_of arcs g = record { id = g.id; decisions = map (decision_of arcs) g.decisions }
@@ -179,9 +206,12 @@ text_of nodes a = record { id = a.id; from = slice_index_or nodes a.from []; to 
 abbrev pub arc_id : ArcRow → List ℕ
 arc_id a = a.id
 
--- a decision and a group, with the names of their arcs
+-- a set, a decision and a group, with the names of their arcs
+abbrev pub set_text : List (List ℕ) → ℕ × Allow → SetText
+set_text arcs s = record { arc = slice_index_or arcs s.0 []; allow = s.1 }
+
 abbrev pub decision_text : List (List ℕ) → Decision → DecisionText
-decision_text arcs d = record { id = d.id; sets = map (λ s. record { arc = slice_index_or arcs s.0 []; allow = s.1 }) d.sets }
+decision_text arcs d = record { id = d.id; sets = map (set_text arcs) d.sets }
 
 abbrev pub group_text : List (List ℕ) → Group → GroupText
 group_text arcs g = record { id = g.id; decisions = map (decision_text arcs) g.decisions }
@@ -197,15 +227,6 @@ rows_of p = record {
 -- a problem is made of its own rows
 abbrev pub IsProblem : Network → Type 0
 IsProblem p = problem_of (rows_of p) ≡ Ok p
-
-abbrev pub is_pipe : ArcKind → Bool
-is_pipe (Pipe law) = true
-is_pipe kind = false
-
--- all arcs are pipes, and there are no groups
-pub record HasPipesAlone (rows : Rows) : Type 0 where
-  pub pipes : list_all (λ a. is_pipe a.kind) rows.arcs ≡ true
-  pub no_groups : rows.groups ≡ []
 
 -- an answer that isn't Ok is this one, unless memory ran out
 abbrev pub Fails : {Y : Type 0} → ModelFault → Result Y ModelFault → Type 0

@@ -42,3 +42,39 @@ pub fn same_ends(alloc: Global, arc: &Name) -> ModelFault
         Err(_) => ModelFault::NoMemory,
     }
 }
+
+pub fn empty_group(alloc: Global, group: &Name) -> ModelFault
+    ensures { Tells result (Some (fault.EmptyGroup group.now)) }
+{
+    match group.copy(alloc) {
+        Ok(group) => ModelFault::EmptyGroup { group },
+        Err(_) => ModelFault::NoMemory,
+    }
+}
+
+pub fn no_such_arc(alloc: Global, group: &Name, id: &Name) -> ModelFault
+    ensures { Tells result (Some (fault.NoSuchArc group.now id.now)) }
+{
+    match (group.copy(alloc), id.copy(alloc)) {
+        (Ok(group), Ok(id)) => ModelFault::NoSuchArc { group, id },
+        _ => ModelFault::NoMemory,
+    }
+}
+
+pub fn not_active(alloc: Global, group: &Name, arc: &Name) -> ModelFault
+    ensures { Tells result (Some (fault.NotActive group.now arc.now)) }
+{
+    match (group.copy(alloc), arc.copy(alloc)) {
+        (Ok(group), Ok(arc)) => ModelFault::NotActive { group, arc },
+        _ => ModelFault::NoMemory,
+    }
+}
+
+pub fn twice_decided(alloc: Global, arc: &Name) -> ModelFault
+    ensures { Tells result (Some (fault.TwiceDecided arc.now)) }
+{
+    match arc.copy(alloc) {
+        Ok(arc) => ModelFault::TwiceDecided { arc },
+        Err(_) => ModelFault::NoMemory,
+    }
+}

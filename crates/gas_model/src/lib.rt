@@ -3,21 +3,25 @@
 
 mod collections;
 mod faults;
+mod grouping;
 mod incidence;
 mod limits;
 mod places;
 mod placing;
 mod problem;
 mod rows;
+mod rulings;
+mod states;
 
 pub use collections::{Bytes, List, Name, NoMemory};
 pub use limits::{is_arc_within, is_id, is_kind_within, is_node_within};
 pub use places::Places;
 pub use problem::Problem;
 pub use rows::{
-    Allow, ArcKind, ArcRow, ArcState, ArcText, Decision, DecisionText, Drag, Group, GroupText,
-    Many, ModelFault, NodeRow, PartState, Rows, SetText, Setting, Var,
+    Allow, ArcKind, ArcRow, ArcState, ArcText, Decision, DecisionText, Drag, Ends, Group,
+    GroupText, Many, ModelFault, NodeRow, PartState, Rows, Ruling, SetText, Setting, Var,
 };
+pub use states::{all_leave, allows, first_left, has_state, leaves, states_of};
 
 #[cfg(test)]
 mod tests;

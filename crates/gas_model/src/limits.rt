@@ -1,7 +1,7 @@
 // The limits of the numbers and ids of a problem.
 ghost use Rattle.std.specs.Prelude.{◌≡◌};
 ghost use Rattle.std.specs.List.{list_all};
-ghost use Rattle.gas_model.specs.Limits.{is_id, is_id_byte, between, is_pressure, is_difference, is_flow, is_drag_part, is_ratio_part, is_ratio_within, are_station_pressures, is_drag_within, is_kind_within, is_node_within, is_arc_within};
+ghost use Rattle.gas_model.specs.Limits.{is_id, has_id_form, is_id_byte, between, is_pressure, is_difference, is_flow, is_drag_part, is_ratio_part, is_ratio_within, are_station_pressures, is_drag_within, is_kind_within, is_node_within, is_arc_within};
 
 use crate::rows::{ArcKind, ArcText, Drag, NodeRow};
 
@@ -26,11 +26,17 @@ fn are_id_bytes(bytes: &[u8]) -> bool
     bytes.iter().all(|b| 0x21 <= *b && *b != 0x7F)
 }
 
+fn has_id_form(text: &str) -> bool
+    ensures { result ≡ has_id_form text.now }
+{
+    !text.is_empty() && text.len() <= 200 && are_id_bytes(text.as_bytes())
+}
+
 /// Whether a text may be an id: it has 1 to 200 bytes, none below 0x21 and none 0x7F.
 pub fn is_id(text: &str) -> bool
     ensures { result ≡ is_id text.now }
 {
-    !text.is_empty() && text.len() <= 200 && are_id_bytes(text.as_bytes())
+    has_id_form(text)
 }
 
 fn is_between(low: i64, x: i64, high: i64) -> bool

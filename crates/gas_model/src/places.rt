@@ -2,6 +2,7 @@
 ghost use Rattle.std.specs.Prelude.{◌≡◌, ℕ, ◌∷◌, ◌++◌, [], List, not, position, IfOk, OnOk, if◌then◌else◌, IfSome, ◌<◌, length};
 ghost use Rattle.std.specs.List.{list_any};
 ghost use Rattle.std.specs.Str.{bytes_eq};
+ghost use Rattle.gas_model.specs.Rows.{is_among};
 
 use crate::collections::NoMemory;
 use indexmap::IndexSet;
@@ -49,5 +50,12 @@ impl<'a> Places<'a> {
         ensures within { IfSome result (λ i. i < length self.now) }
     {
         self.names.get_index_of(name)
+    }
+
+    /// Whether a name is there.
+    pub fn holds(&self, name: &str) -> bool
+        ensures { result ≡ is_among self.now name.now }
+    {
+        self.names.contains(name)
     }
 }

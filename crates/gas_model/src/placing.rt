@@ -1,13 +1,14 @@
-// Rows with the positions of their ends, or the first offence of nodes and arcs.
+// Rows with positions in place of names, or their first offence.
 ghost use Rattle.std.specs.Prelude.{◌≡◌, None, Some, IfOk, IfErr, OnOk, [], ◌∷◌, ◌++◌, ◌≤◌, length, map};
-ghost use Rattle.std.specs.Option.{option_or};
-ghost use Rattle.gas_model.specs.Rows.{node_id, node_ids, node_fault, nodes_fault, text_id, arc_of, arc_fault, arcs_fault, count_fault, Tells};
+ghost use Rattle.gas_model.specs.Rows.{node_id, node_ids, node_fault, nodes_fault, text_id, text_ids, arc_of, arc_fault, arcs_fault, count_fault, uncounted_fault, rows_fault, Tells};
+ghost use Rattle.gas_model.specs.Placing.{IsPlaced};
 
 use crate::collections::List;
 use crate::faults::{no_such_node, over_limit, same_ends, twice_named};
+use crate::grouping::{count_groups, place_groups};
 use crate::limits::{is_arc_within, is_node_within};
 use crate::places::Places;
-use crate::rows::{ArcRow, ArcText, Many, ModelFault, NodeRow};
+use crate::rows::{ArcRow, ArcText, Group, Many, ModelFault, NodeRow, Rows};
 use std::alloc::Global;
 
 const MAX_NODES: usize = 2_000;
@@ -91,35 +92,31 @@ fn add_arc<'a>(
     })
 }
 
-// All arcs with the places of their ends.
-fn place_arcs(
+// All arcs with the places of their ends, and their ids in `ids`.
+fn place_arcs<'a>(
     alloc: Global,
     nodes: &Places<'_>,
-    arcs: &[ArcText],
+    ids: &mut Places<'a>,
+    arcs: &'a [ArcText],
 ) -> Result<List<ArcRow>, ModelFault>
-    requires { length nodes.now ≤ 2000 }
+    requires few { length nodes.now ≤ 2000 }
+    requires fresh { ids.old ≡ [] }
     ensures rows { IfOk result (λ rows. rows ≡ map (arc_of nodes.now) arcs.now) }
+    ensures ids { OnOk result (ids.new ≡ text_ids arcs.now) }
     ensures clean { OnOk result (arcs_fault nodes.now arcs.now ≡ None) }
     ensures err { IfErr result (λ e. Tells e (arcs_fault nodes.now arcs.now)) }
 {
-    let mut earlier = Places::new(alloc);
     let mut rows = List::new(alloc);
     for arc in arcs {
-        rows.push(add_arc(alloc, nodes, &mut earlier, arc)?)?;
+        rows.push(add_arc(alloc, nodes, ids, arc)?)?;
     }
     Ok(rows)
 }
 
-// The arcs with the places of their ends, or the first offence of the counts, the nodes and the arcs.
-pub fn place_rows(
-    alloc: Global,
-    nodes: &[NodeRow],
-    arcs: &[ArcText],
-) -> Result<List<ArcRow>, ModelFault>
-    ensures rows { IfOk result (λ rows. rows ≡ map (arc_of (node_ids nodes.now)) arcs.now) }
-    ensures few { OnOk result (length arcs.now ≤ 2000) }
-    ensures clean { OnOk result (option_or (count_fault nodes.now arcs.now) (option_or (nodes_fault nodes.now) (arcs_fault (node_ids nodes.now) arcs.now)) ≡ None) }
-    ensures err { IfErr result (λ e. Tells e (option_or (count_fault nodes.now arcs.now) (option_or (nodes_fault nodes.now) (arcs_fault (node_ids nodes.now) arcs.now)))) }
+// The counts of nodes and arcs.
+fn count_rows(nodes: &[NodeRow], arcs: &[ArcText]) -> Result<(), ModelFault>
+    ensures clean { OnOk result (count_fault nodes.now arcs.now ≡ None) }
+    ensures err { IfErr result (λ e. Tells e (count_fault nodes.now arcs.now)) }
 {
     if nodes.len() > MAX_NODES {
         return Err(ModelFault::TooMany { what: Many::Nodes });
@@ -127,6 +124,39 @@ pub fn place_rows(
     if arcs.len() > MAX_ARCS {
         return Err(ModelFault::TooMany { what: Many::Arcs });
     }
-    let ids = place_nodes(alloc, nodes)?;
-    place_arcs(alloc, &ids, arcs)
+    Ok(())
+}
+
+// The arcs and groups of rows, with positions in place of names.
+#[derive(Debug, Drop)]
+pub struct Placed {
+    pub arcs: List<ArcRow>,
+    pub groups: List<Group>,
+}
+
+// The nodes, arcs and groups in their order, once they were counted.
+fn place_counted(alloc: Global, rows: &Rows) -> Result<Placed, ModelFault>
+    requires nodes { length rows.now.nodes ≤ 2000 }
+    requires arcs { length rows.now.arcs ≤ 2000 }
+    ensures placed { IfOk result (λ x. IsPlaced rows.now x) }
+    ensures clean { OnOk result (uncounted_fault rows.now ≡ None) }
+    ensures err { IfErr result (λ e. Tells e (uncounted_fault rows.now)) }
+{
+    let texts = rows.arcs.as_slice();
+    let nodes = place_nodes(alloc, rows.nodes.as_slice())?;
+    let mut ids = Places::new(alloc);
+    let arcs = place_arcs(alloc, &nodes, &mut ids, texts)?;
+    let groups = place_groups(alloc, texts, &ids, rows.groups.as_slice())?;
+    Ok(Placed { arcs, groups })
+}
+
+// The rows with positions in place of names, or their first offence.
+pub fn place_rows(alloc: Global, rows: &Rows) -> Result<Placed, ModelFault>
+    ensures placed { IfOk result (λ x. IsPlaced rows.now x) }
+    ensures clean { OnOk result (rows_fault rows.now ≡ None) }
+    ensures err { IfErr result (λ e. Tells e (rows_fault rows.now)) }
+{
+    count_rows(rows.nodes.as_slice(), rows.arcs.as_slice())?;
+    count_groups(rows.groups.as_slice())?;
+    place_counted(alloc, rows)
 }

@@ -1,25 +1,29 @@
 // Problems: rows within the limits, with positions in place of names.
 ghost use Rattle.std.specs.Prelude.{◌≡◌, ◌<◌, Some, length, slice_get, IfOk};
-ghost use Rattle.gas_model.specs.Rows.{problem_of, Gives, HasPipesAlone, IsProblem};
+ghost use Rattle.gas_model.specs.Rows.{problem_of, Gives, IsProblem};
 ghost use Rattle.gas_model.specs.Points.{arcs_at};
 ghost use Rattle.gas_model.specs.Choices.{fixed_state, fresh_part, PartFits};
+ghost use Rattle.gas_model.specs.Rulings.{rulings_at};
 ghost use Rattle.gas_model.specs.Within.{IsWithin};
 
 use crate::collections::{List, NoMemory};
 use crate::incidence::{ArcsAt, arcs_at_nodes};
 use crate::placing::place_rows;
-use crate::rows::{ArcKind, ArcRow, ArcState, Group, ModelFault, NodeRow, PartState, Rows};
+use crate::rows::{ArcRow, ArcState, Group, ModelFault, NodeRow, PartState, Rows, Ruling};
+use crate::rulings::rulings_of_arcs;
+use crate::states::fixed_by;
 use std::alloc::Global;
 use std::marker::Model;
 
 /// A network with its nomination. Contracts see its rows, with positions in place of names.
-/// It also keeps which arcs leave or enter each node.
+/// It also keeps which arcs leave or enter each node, and what decisions say of each arc.
 #[derive(Drop)]
 pub struct Problem {
     nodes: List<NodeRow>,
     arcs: List<ArcRow>,
     groups: List<Group>,
     arcs_at: Vec<ArcsAt>,
+    rulings: Vec<Vec<Ruling>>,
 }
 
 impl Model for Problem {
@@ -35,20 +39,26 @@ impl Model for Problem {
 }
 
 impl Problem {
-    /// The problem of these rows, in their order, or their first offence: too many rows; then a node, an arc or a
-    /// group over its limits, named twice, or that names what isn't there.
-    /// For now all arcs are pipes, and there are no groups.
+    /// The problem of these rows, in their order, or their first offence. The order is: too many nodes, arcs, groups or
+    /// decisions of a group; the nodes, each over its limits, then named twice; the arcs, each named twice, then
+    /// without its `from`, then without its `to`, then from a node to itself, then over its limits; the groups, each
+    /// with a bad id, then named twice, then without a decision, then its decisions, each with a bad id, then named
+    /// twice in its group, then its sets, each for an arc that isn't there, then for one that doesn't take the word,
+    /// then for one that stands twice in the decision or stands in an earlier group.
     pub fn make(alloc: Global, rows: Rows) -> Result<Problem, ModelFault>
-        requires { HasPipesAlone rows }
         ensures exact { Gives (λ p. p) result (problem_of rows) }
     {
-        let arcs = place_rows(alloc, rows.nodes.as_slice(), rows.arcs.as_slice())?;
+        let placed = place_rows(alloc, &rows)?;
+        let arcs = placed.arcs;
+        let groups = placed.groups;
         let arcs_at = arcs_at_nodes(alloc, rows.nodes.as_slice().len(), arcs.as_slice())?;
+        let rulings = rulings_of_arcs(alloc, arcs.as_slice().len(), groups.as_slice())?;
         Ok(Problem {
             nodes: rows.nodes,
             arcs,
-            groups: List::new(alloc),
+            groups,
             arcs_at,
+            rulings,
         })
     }
 
@@ -88,6 +98,15 @@ impl Problem {
         self.arcs_at[node as usize].as_slice()
     }
 
+    /// What the decisions of all groups say of an arc, in order.
+    pub fn rulings_at(&self, arc: u32) -> &[Ruling]
+        requires { arc < length self.now.arcs }
+        ensures rulings { result.now ≡ rulings_at self.now.groups arc }
+        ensures within { IsWithin self.now }
+    {
+        self.rulings[arc as usize].as_slice()
+    }
+
     /// The state of an arc that is fixed: that of a kind with one state, or the one that the part state names, or the
     /// only one that its picked decisions allow. `None` exactly where no state is fixed.
     pub fn state_of(&self, part: &PartState, arc: u32) -> Option<ArcState>
@@ -95,13 +114,9 @@ impl Problem {
         requires within { arc < length self.now.arcs }
         ensures { (row : ArcRow) → slice_get self.now.arcs arc ≡ Some row → result ≡ fixed_state self.now part.now arc row }
     {
-        match self.arcs.as_slice()[arc as usize].kind {
-            ArcKind::Pipe { .. } | ArcKind::Short | ArcKind::Resist { .. } | ArcKind::Loss { .. } =>
-                Some(ArcState::Opened),
-            ArcKind::Valve | ArcKind::Control { .. } | ArcKind::Station { .. } => {
-                part.states.as_slice()[arc as usize]
-            }
-        }
+        let kind = &self.arcs()[arc as usize].kind;
+        let named = part.states.as_slice()[arc as usize];
+        fixed_by(kind, named, part.picks.as_slice(), self.rulings_at(arc))
     }
 
     /// The part state in which nothing is picked and no state is named.

@@ -120,6 +120,14 @@ pub struct Group {
     pub decisions: List<Decision>,
 }
 
+/// What a decision of a group says of an arc: the positions of the group and of its decision, and the word.
+#[derive(Clone, Copy, Debug, PartialEq, Eq)]
+pub struct Ruling {
+    pub group: u32,
+    pub decision: u32,
+    pub allow: Allow,
+}
+
 /// All rows of a problem.
 #[derive(Debug, Drop)]
 pub struct Rows {
@@ -158,6 +166,13 @@ pub struct Setting {
 pub enum Var {
     Flow(u32),
     Square(u32),
+}
+
+/// The lower and the upper end of a variable in a box, in units of 1/K.
+#[derive(Clone, Copy, Debug, PartialEq, Eq)]
+pub struct Ends {
+    pub lo: i128,
+    pub hi: i128,
 }
 
 /// What there may be too many of.

@@ -1,6 +1,3 @@
-ghost use Rattle.std.specs.Prelude.{IfOk, IsTrue};
-ghost use Rattle.gas_model.specs.Rows.{is_pipe};
-
 use super::*;
 use std::alloc::Global;
 use std::test::Fail;
@@ -15,21 +12,22 @@ fn node(alloc: Global, id: &str, p_max: i64) -> Result<NodeRow, NoMemory> {
     })
 }
 
-fn pipe(alloc: Global, from: &str, to: &str) -> Result<ArcText, NoMemory>
-    ensures { IfOk result (λ arc. IsTrue (is_pipe arc.kind)) }
-{
-    let law = Drag {
+const PIPE: ArcKind = ArcKind::Pipe {
+    law: Drag {
         lo: 1,
         hi: 2,
         den: 3,
-    };
+    },
+};
+
+fn arc(alloc: Global, id: &str, from: &str, to: &str, kind: ArcKind) -> Result<ArcText, NoMemory> {
     Ok(ArcText {
-        id: Name::of(alloc, "p")?,
+        id: Name::of(alloc, id)?,
         from: Name::of(alloc, from)?,
         to: Name::of(alloc, to)?,
         q_min: -10,
         q_max: 10,
-        kind: ArcKind::Pipe { law },
+        kind,
     })
 }
 
@@ -49,7 +47,7 @@ fn problem(
     to: &str,
 ) -> Result<Problem, ModelFault> {
     let mut arcs = List::new(alloc);
-    arcs.push(pipe(alloc, from, to)?)?;
+    arcs.push(arc(alloc, "p", from, to, PIPE)?)?;
     let groups = List::new(alloc);
     Problem::make(
         alloc,
@@ -132,5 +130,123 @@ fn the_first_offence_is_answered(rt: HostRuntime) -> Result<(), Fail> {
     assert_eq!(rt; offence(alloc, "a", 9, "a", "c")?, "twice named");
     assert_eq!(rt; offence(alloc, "b", 9, "a", "c")?, "no such node");
     assert_eq!(rt; offence(alloc, "b", 9, "b", "b")?, "same ends");
+    Ok(())
+}
+
+// A decision with a word for the arc of this name, where there is one.
+fn decision(alloc: Global, id: &str, arc: &str, allow: Allow) -> Result<DecisionText, NoMemory> {
+    let mut sets = List::new(alloc);
+    sets.push(SetText {
+        arc: Name::of(alloc, arc)?,
+        allow,
+    })?;
+    Ok(DecisionText {
+        id: Name::of(alloc, id)?,
+        sets,
+    })
+}
+
+// The group `g` of two decisions, `d` and `e`, each with a word for an arc.
+fn group(
+    alloc: Global,
+    first: (&str, Allow),
+    second: (&str, Allow),
+) -> Result<GroupText, NoMemory> {
+    let mut decisions = List::new(alloc);
+    decisions.push(decision(alloc, "d", first.0, first.1)?)?;
+    decisions.push(decision(alloc, "e", second.0, second.1)?)?;
+    Ok(GroupText {
+        id: Name::of(alloc, "g")?,
+        decisions,
+    })
+}
+
+// Two nodes, a pipe `p`, a valve `v` and a station `c` between them, and a group with these words.
+fn decided(alloc: Global, first: (&str, Allow), second: (&str, Allow)) -> Result<Rows, NoMemory> {
+    let station = ArcKind::Station {
+        in_min: 0,
+        out_max: 9,
+        ratio_num: 3,
+        ratio_den: 2,
+        rise_max: 9,
+    };
+    let mut arcs = List::new(alloc);
+    arcs.push(arc(alloc, "p", "a", "b", PIPE)?)?;
+    arcs.push(arc(alloc, "v", "a", "b", ArcKind::Valve)?)?;
+    arcs.push(arc(alloc, "c", "a", "b", station)?)?;
+    let mut groups = List::new(alloc);
+    groups.push(group(alloc, first, second)?)?;
+    Ok(Rows {
+        nodes: two_nodes(alloc, "b", 9)?,
+        arcs,
+        groups,
+    })
+}
+
+// What is wrong with a group of these words, in a word.
+fn group_offence(
+    alloc: Global,
+    first: (&str, Allow),
+    second: (&str, Allow),
+) -> Result<&'static str, NoMemory> {
+    match Problem::make(alloc, decided(alloc, first, second)?) {
+        Err(ModelFault::NoSuchArc { .. }) => Ok("no such arc"),
+        Err(ModelFault::NotActive { .. }) => Ok("not active"),
+        Err(_) => Ok("other"),
+        Ok(_) => Ok("none"),
+    }
+}
+
+// A pipe takes no word, a valve isn't active, and both decisions of a group may speak of one arc.
+#[test]
+fn a_group_speaks_of_valves_and_stations(rt: HostRuntime) -> Result<(), Fail> {
+    let alloc = rt.alloc();
+    let shut = ("v", Allow::Shut);
+    assert_eq!(rt;
+        group_offence(alloc, shut, ("w", Allow::Shut))?,
+        "no such arc"
+    );
+    assert_eq!(rt;
+        group_offence(alloc, shut, ("p", Allow::Shut))?,
+        "not active"
+    );
+    assert_eq!(rt; group_offence(alloc, ("v", Allow::On), shut)?, "not active");
+    assert_eq!(rt; group_offence(alloc, shut, ("v", Allow::Opened))?, "none");
+    Ok(())
+}
+
+// What the part state that picks this decision of the only group fixes of the pipe, the valve and the station.
+fn fixed(alloc: Global, p: &Problem, pick: u32) -> Result<Option<[Option<ArcState>; 3]>, NoMemory> {
+    let groups = p.groups();
+    let arcs = p.arcs();
+    if groups.len() != 1
+        || arcs.len() != 3
+        || pick as usize >= groups[0].decisions.as_slice().len()
+    {
+        return Ok(None);
+    }
+    let part = PartState {
+        picks: List::filled(alloc, Some(pick), 1)?,
+        states: List::filled(alloc, None, 3)?,
+    };
+    Ok(Some([
+        p.state_of(&part, 0),
+        p.state_of(&part, 1),
+        p.state_of(&part, 2),
+    ]))
+}
+
+// A pipe is always open. The first decision shuts the valve and leaves the station its three states, the second turns
+// the station on, which is active or bypass, and leaves the valve its two states.
+#[test]
+fn a_picked_decision_fixes_the_valve(rt: HostRuntime) -> Result<(), Fail> {
+    let alloc = rt.alloc();
+    let p = Problem::make(alloc, decided(alloc, ("v", Allow::Shut), ("c", Allow::On))?)?;
+    let open = Some(ArcState::Opened);
+    assert_eq!(rt;
+        fixed(alloc, &p, 0)?,
+        Some([open, Some(ArcState::Shut), None])
+    );
+    assert_eq!(rt; fixed(alloc, &p, 1)?, Some([open, None, None]));
     Ok(())
 }

@@ -5,6 +5,6 @@ use Rattle.gas_model.proofs.placing.place_arcs.Given as goal
 abbrev pub invariant-loop-arc : goal.invariant-loop-arc
 invariant-loop-arc l = record {
   rows : l.rows ≡ map (arc_of l.nodes) (take l.arc-index l.arcs);
-  earlier : l.earlier ≡ text_ids (take l.arc-index l.arcs);
-  so_far : first_offence text_id (arc_fault l.nodes) l.earlier (drop l.arc-index l.arcs) ≡ arcs_fault l.nodes l.arcs;
+  ids : l.ids ≡ text_ids (take l.arc-index l.arcs);
+  so_far : first_offence text_id (arc_fault l.nodes) l.ids (drop l.arc-index l.arcs) ≡ arcs_fault l.nodes l.arcs;
 }
