@@ -7,6 +7,7 @@ use Rattle.integer_laws.proofs.Ring.{linear}
 use Rattle.integer_laws.proofs.SizeLemmas.{within_fits, product_within, difference_within, between_within}
 use Rattle.gas_model.specs.declared.rows.Drag.{Drag}
 use Rattle.gas_model.specs.Limits.{is_drag_part, is_drag_within}
+use Rattle.element_laws.specs.Sizes.{most_flow}
 
 -- a law's numbers within their limits
 pub record DragParts (law : Drag) : Type 0 where
@@ -38,17 +39,17 @@ pub record DropFits (bound flow : ℤ) : Type 0 where
   pub product : FitsSigned w128 (bound *ℤ (flow *ℤ flow))
   pub negated : FitsSigned w128 (pos 0 -ℤ bound *ℤ (flow *ℤ flow))
 
-pub drop_fits : (bound q : ℤ) → IsTrue (is_drag_part bound) → IsWithin 1000000000001 q → DropFits bound q
+pub drop_fits : (bound q : ℤ) → IsTrue (is_drag_part bound) → IsWithin most_flow q → DropFits bound q
 drop_fits bound q t w =
     let b = part_size bound t in
-    let s = product_within q q 1000000000001 1000000000001 w w in
-    let p = product_within bound (q *ℤ q) (2 ^ 38) (1000000000001 * 1000000000001) b s in
-    let n = difference_within (pos 0) (bound *ℤ (q *ℤ q)) 0 (2 ^ 38 * (1000000000001 * 1000000000001)) (lit≤ tt) p in
+    let s = product_within q q most_flow most_flow w w in
+    let p = product_within bound (q *ℤ q) (2 ^ 38) (most_flow * most_flow) b s in
+    let n = difference_within (pos 0) (bound *ℤ (q *ℤ q)) 0 (2 ^ 38 * (most_flow * most_flow)) (lit≤ tt) p in
     record {
       small = fits_in w64 bound (omega (arith, linear, part_from bound t, part_most bound t));
       wide = within_fits (2 ^ 38) bound b (lit≤ tt);
-      q = within_fits 1000000000001 q w (lit≤ tt);
-      square = within_fits (1000000000001 * 1000000000001) (q *ℤ q) s (lit≤ tt);
-      product = within_fits (2 ^ 38 * (1000000000001 * 1000000000001)) (bound *ℤ (q *ℤ q)) p (lit≤ tt);
-      negated = within_fits (0 + 2 ^ 38 * (1000000000001 * 1000000000001)) (pos 0 -ℤ bound *ℤ (q *ℤ q)) n (lit≤ tt);
+      q = within_fits most_flow q w (lit≤ tt);
+      square = within_fits (most_flow * most_flow) (q *ℤ q) s (lit≤ tt);
+      product = within_fits (2 ^ 38 * (most_flow * most_flow)) (bound *ℤ (q *ℤ q)) p (lit≤ tt);
+      negated = within_fits (0 + 2 ^ 38 * (most_flow * most_flow)) (pos 0 -ℤ bound *ℤ (q *ℤ q)) n (lit≤ tt);
     }

@@ -7,3 +7,7 @@ pub mod NearFits
 pub mod NetFlows
 pub mod Order
 pub mod NearLaws
+pub mod RootFits
+pub mod Connectives
+pub mod ActiveFits
+pub mod FallFits

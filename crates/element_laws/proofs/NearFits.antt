@@ -7,12 +7,13 @@ use Rattle.integer_laws.proofs.Ring.{linear}
 use Rattle.integer_laws.proofs.SizeLemmas.{within_parts, one_part, within_fits, product_within, sum_within, difference_within, between_within}
 use Rattle.gas_model.specs.declared.rows.Drag.{Drag}
 use Rattle.gas_model.specs.Limits.{is_drag_within, is_flow, is_square}
+use Rattle.element_laws.specs.Sizes.{most_flow}
 use Rattle.element_laws.proofs.DropFits.{drag_parts, part_from, part_most, part_size}
 
-square_from : (s : ℤ) → IsTrue (is_square s) → pos 0 ≤ℤ s
+pub square_from : (s : ℤ) → IsTrue (is_square s) → pos 0 ≤ℤ s
 square_from s t = grind (arith, linear)
 
-square_most : (s : ℤ) → IsTrue (is_square s) → s ≤ℤ pos (10 ^ 16)
+pub square_most : (s : ℤ) → IsTrue (is_square s) → s ≤ℤ pos (10 ^ 16)
 square_most s t = grind (arith, linear)
 
 pub square_size : (s : ℤ) → IsTrue (is_square s) → IsWithin (10 ^ 16) s
@@ -33,7 +34,7 @@ pub record NearFits (law : Drag) (tol q u v : ℤ) : Type 0 where
   pub less : FitsSigned w128 (u -ℤ v -ℤ tol)
   pub above : FitsSigned w128 (law.den *ℤ (u -ℤ v +ℤ tol))
   pub below : FitsSigned w128 (law.den *ℤ (u -ℤ v -ℤ tol))
-  pub flow : IsWithin 1000000000001 q
+  pub flow : IsWithin most_flow q
 
 pub near_fits : (law : Drag) (tol q u v : ℤ) → IsTrue (is_drag_within law) → IsTrue (is_square tol) → IsTrue (is_flow q) → IsTrue (is_square u) → IsTrue (is_square v) → NearFits law tol q u v
 near_fits law tol q u v l t f a b =

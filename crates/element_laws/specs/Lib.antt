@@ -1,4 +1,5 @@
 pub mod Weymouth
+pub mod Sizes
 pub mod Failing
 pub mod Kept
 pub mod FirstBroken

@@ -1,11 +1,11 @@
 // The bounds of flows and of squared pressures.
-ghost use Rattle.std.specs.Prelude.{◌≡◌, ◌<◌, length, ◌*ℤ◌};
+ghost use Rattle.std.specs.Prelude.{◌≡◌, ◌<◌, length};
 ghost use Rattle.gas_model.specs.Limits.{between};
 ghost use Rattle.gas_model.specs.Near.{SettingFits};
 ghost use Rattle.element_laws.specs.Failing.{IsFirstFailing};
 ghost use Rattle.element_laws.specs.Kept.{keeps_flow_bound, keeps_pressure_bound};
 
-use crate::numbers::{flow_at, square_at};
+use crate::numbers::{flow_at, square, square_at};
 use gas_model::{Problem, Setting};
 
 // Whether a number lies between two, either of which it may be.
@@ -35,13 +35,6 @@ pub fn first_flow_bound(p: &Problem, setting: &Setting) -> Option<u32>
         }
     }
     None
-}
-
-fn square(pressure: i64) -> i128
-    ensures { result ≡ pressure *ℤ pressure }
-{
-    let pressure = pressure as i128;
-    pressure * pressure
 }
 
 fn keeps_pressure_bound(p: &Problem, setting: &Setting, node: usize) -> bool

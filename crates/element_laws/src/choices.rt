@@ -1,31 +1,36 @@
-// The choices: a state for each arc.
-ghost use Rattle.std.specs.Prelude.{◌≡◌, ◌<◌, length};
-ghost use Rattle.gas_model.specs.Choices.{has_state};
+// The choices: a decision for each group, and a state for each arc.
+ghost use Rattle.std.specs.Prelude.{◌≡◌, ◌<◌, Some, length, map};
+ghost use Rattle.gas_model.specs.Rulings.{all_leave, pick_in};
 ghost use Rattle.gas_model.specs.Near.{SettingFits};
 ghost use Rattle.element_laws.specs.Failing.{IsFirstFailing};
 ghost use Rattle.element_laws.specs.Kept.{keeps_choice};
 
-use gas_model::{ArcKind, ArcState, Problem, Setting};
+use gas_model::{ArcState, Problem, Ruling, Setting, has_state, leaves};
 
-// Whether a kind has the state.
-fn has_state(kind: &ArcKind, state: ArcState) -> bool
-    ensures { result ≡ has_state kind.now state }
+// The decision that is picked for a group.
+fn pick_of(picks: &[u32], group: u32) -> Option<u32>
+    ensures { result ≡ pick_in (map Some picks.now) group }
 {
-    match kind {
-        ArcKind::Pipe { .. } | ArcKind::Short | ArcKind::Resist { .. } | ArcKind::Loss { .. } =>
-            state == ArcState::Opened,
-        ArcKind::Valve => state == ArcState::Opened || state == ArcState::Shut,
-        ArcKind::Control { .. } | ArcKind::Station { .. } => state != ArcState::Opened,
-    }
+    picks.get(group as usize).copied()
 }
 
-// Whether an arc is in a state of its kind. A problem has no groups for now, so no decision speaks of it.
+// Whether what the picked decisions say of an arc leaves it the state.
+fn all_leave(picks: &[u32], state: ArcState, rulings: &[Ruling]) -> bool
+    ensures { result ≡ all_leave (pick_in (map Some picks.now)) state rulings.now }
+{
+    rulings.iter().all(|ruling| leaves(pick_of(picks, ruling.group), state, ruling))
+}
+
+// Whether an arc is in a state of its kind that the picked decisions allow.
 fn keeps_choice(p: &Problem, setting: &Setting, arc: usize) -> bool
     requires setting { SettingFits p.now setting.now }
     requires arc { arc < length p.now.arcs }
     ensures { result ≡ keeps_choice p.now setting.now arc }
 {
-    has_state(&p.arcs()[arc].kind, setting.states.as_slice()[arc])
+    let row = &p.arcs()[arc];
+    let state = setting.states.as_slice()[arc];
+    let rulings = p.rulings_at(arc as u32);
+    has_state(&row.kind, state) && all_leave(setting.picks.as_slice(), state, rulings)
 }
 
 // The first arc that isn't in a state of its kind that the picked decisions allow.

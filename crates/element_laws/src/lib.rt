@@ -1,15 +1,20 @@
 //! The laws of arcs and nodes on whole-number settings: what a flow drops, and which law a setting breaks first.
 #![tactic(auto)]
 
+mod active;
 mod arcs;
 mod balance;
 mod bounds;
 mod broken;
 mod choices;
+mod drags;
 mod drops;
+mod falls;
 mod numbers;
+mod roots;
 #[cfg(test)]
 mod tests;
 
 pub use broken::{Broken, first_broken};
 pub use drops::{drop_high, drop_low, interval_is_weymouth};
+pub use roots::{at_least, at_most};

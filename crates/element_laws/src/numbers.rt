@@ -1,7 +1,8 @@
-// The numbers of a setting.
+// The numbers of a setting, and the squares of pressures.
 ghost use Rattle.std.specs.Prelude.{◌≡◌, ◌<◌, IsTrue, length, true};
 ghost use Rattle.std.specs.List.{list_all};
 ghost use Rattle.gas_model.specs.Limits.{is_flow, is_square};
+ghost use Rattle.gas_model.specs.Curves.{square};
 ghost use Rattle.gas_model.specs.Near.{number_at};
 
 use gas_model::Setting;
@@ -24,4 +25,12 @@ pub fn square_at(setting: &Setting, node: usize) -> i128
     ensures limit { IsTrue (is_square result) }
 {
     setting.squares.as_slice()[node] as i128
+}
+
+// The square of a pressure.
+pub fn square(pressure: i64) -> i128
+    ensures { result ≡ square pressure }
+{
+    let pressure = pressure as i128;
+    pressure * pressure
 }

@@ -1,13 +1,8 @@
-use Rattle.std.proofs.Common.{◌≡◌, ◌&&◌, Bool, true, false, to_z-of_z, rules, arith, FitsSigned}
+use Rattle.std.proofs.Common.{to_z-of_z, rules, FitsSigned}
 use Rattle.std.specs.Int.{w128}
+use Rattle.element_laws.proofs.Connectives.{and_first, and_second}
 use Rattle.element_laws.proofs.NearFits.{near_fits}
-use Rattle.element_laws.proofs.arcs.nears_resistance.Goals as goal
-
-and_first : (a b : Bool) → a ≡ false → a ≡ (a && b)
-and_first a b h = grind arith
-
-and_second : (a b : Bool) → a ≡ true → b ≡ (a && b)
-and_second a b h = grind arith
+use Rattle.element_laws.proofs.drags.nears_resistance.Goals as goal
 
 pub overflow_add-drop : goal.overflow_add-drop
 overflow_add-drop c =
