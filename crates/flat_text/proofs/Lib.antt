@@ -1,4 +1,9 @@
+pub mod Drafts
+pub mod Grouped
+pub mod KindTexts
 pub mod Passing
+pub mod Remade
 pub mod Spaced
 pub mod Spelled
 pub mod Whole
+pub mod Written

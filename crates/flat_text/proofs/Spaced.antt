@@ -1,14 +1,14 @@
 -- What the text of fields reads as, and which text reads as fields.
-use Rattle.std.proofs.Common.{◌≡◌, ◌<◌, ℕ, List, [], ◌∷◌, ◌++◌, length, Bool, true, false, cond, not, ◌&&◌, Option, Some, None, Result, Ok, Err, ℤ, pos, negsuc, refl, ap, ◌∙◌, arith}
+use Rattle.std.proofs.Common.{◌≡◌, ◌<◌, ℕ, List, [], ◌∷◌, ◌++◌, length, map, Bool, true, false, cond, not, ◌&&◌, Option, Some, None, Result, Ok, Err, ℤ, pos, negsuc, refl, sym, ap, subst, ◌∙◌, arith}
 use Rattle.std.specs.Prelude.{◌==◌, nat_le, FitsSigned}
 use Rattle.std.specs.Fmt.{signed_decimal}
 use Rattle.std.specs.Int.{w64}
-use Rattle.std.specs.List.{list_all, flat_map}
+use Rattle.std.specs.List.{list_all}
 use Rattle.std.specs.Str.{is_utf8}
 use Rattle.std.proofs.lemmas.Bool.{eqb-true}
 use Rattle.std.proofs.lemmas.Bool.Decides.{nat_tests}
 use Rattle.std.proofs.lemmas.Int.{ints}
-use Rattle.gas_model.specs.Limits.{is_id_byte, is_id, is_pressure, is_flow, is_drag_part}
+use Rattle.gas_model.specs.Limits.{is_id_byte, has_id_form, is_id, is_pressure, is_difference, is_flow, is_drag_part, is_ratio_part}
 use Rattle.gas_model.specs.declared.rows.Drag.{Drag}
 use Rattle.line_text.specs.Numerals.{IsWithin}
 use Rattle.line_text.specs.Words.{word_len}
@@ -16,11 +16,15 @@ use Rattle.line_text.specs.Words as words
 use Rattle.line_text.proofs.Fields.{IsVisible, and_parts, field_again, field_takes, number_field_again, number_field_takes}
 use Rattle.flat_text.specs.declared.fault.LineFault.{LineFault}
 use Rattle.flat_text.specs.declared.fault.LineFault.TheVariants as fault
+use Rattle.flat_text.specs.Spelling.{spaced}
 use Rattle.flat_text.specs.Fields.{◌>>=◌, found, text_field, number_field, ended, HeadText, head_at, drag_at}
 
--- fields, each after one space
-abbrev pub spaced : List (List ℕ) → List ℕ
-spaced fields = flat_map (λ field. 32 ∷ field) fields
+-- a fact about a value holds of an equal one
+pub carry : {A : Type 0} (P : A → Type 0) (x y : A) → x ≡ y → P x → P y
+carry P x y e h = subst P e h
+
+pub carry_back : {A : Type 0} (P : A → Type 0) (x y : A) → x ≡ y → P y → P x
+carry_back P x y e h = subst P (sym e) h
 
 -- ---- one field
 
@@ -74,11 +78,12 @@ not_empty : (w : List ℕ) → not (length w == 0) ≡ true → 0 < length w
 not_empty [] e = absurd cc
 not_empty (b ∷ w) e = omega arith
 
-pub id_field : (w : List ℕ) → is_id w ≡ true → is_utf8 w ≡ true → IsField w
-id_field w e text =
-    let p = and_parts (not (length w == 0) && nat_le (length w) 200) (list_all is_id_byte w) e in
+pub id_field : (w : List ℕ) → is_id w ≡ true → IsField w
+id_field w e =
+    let text = and_parts (has_id_form w) (is_utf8 w) e in
+    let p = and_parts (not (length w == 0) && nat_le (length w) 200) (list_all is_id_byte w) text.0 in
     let q = and_parts (not (length w == 0)) (nat_le (length w) 200) p.0 in
-    record { visible = id_bytes w p.1; some = not_empty w q.0; text = text }
+    record { visible = id_bytes w p.1; some = not_empty w q.0; text = text.1 }
 
 -- a number far within 64 bits
 pub record IsShort (z : ℤ) : Type 0 where
@@ -89,22 +94,56 @@ pub pressure_short : (z : ℤ) → is_pressure z ≡ true → IsShort z
 pressure_short (pos n) e = record { fits = grind (arith, ints, nat_tests); within = grind (arith, ints, nat_tests) }
 pressure_short (negsuc n) e = absurd cc
 
+pub difference_short : (z : ℤ) → is_difference z ≡ true → IsShort z
+difference_short (pos n) e = record { fits = grind (arith, ints, nat_tests); within = grind (arith, ints, nat_tests) }
+difference_short (negsuc n) e = absurd cc
+
 pub flow_short : (z : ℤ) → is_flow z ≡ true → IsShort z
 flow_short (pos n) e = record { fits = grind (arith, ints, nat_tests); within = grind (arith, ints, nat_tests) }
 flow_short (negsuc n) e = record { fits = grind (arith, ints, nat_tests); within = grind (arith, ints, nat_tests) }
 
-pub part_short : (z : ℤ) → is_drag_part z ≡ true → IsShort z
-part_short (pos n) e = record { fits = grind (arith, ints, nat_tests); within = grind (arith, ints, nat_tests) }
-part_short (negsuc n) e = absurd cc
+pub drag_part_short : (z : ℤ) → is_drag_part z ≡ true → IsShort z
+drag_part_short (pos n) e = record { fits = grind (arith, ints, nat_tests); within = grind (arith, ints, nat_tests) }
+drag_part_short (negsuc n) e = absurd cc
 
--- ---- the head of an arc, and a resistance
+pub ratio_part_short : (z : ℤ) → is_ratio_part z ≡ true → IsShort z
+ratio_part_short (pos n) e = record { fits = grind (arith, ints, nat_tests); within = grind (arith, ints, nat_tests) }
+ratio_part_short (negsuc n) e = absurd cc
+
+-- ---- numbers one after the other
+
+abbrev pub AreShort : List ℤ → Type 0
+AreShort [] = Unit {0}
+AreShort (z ∷ zs) = IsShort z × AreShort zs
+
+-- numbers, each after one space, and what comes after them
+abbrev pub numbers_before : List ℤ → List ℕ → List ℕ
+numbers_before [] rest = rest
+numbers_before (z ∷ zs) rest = 32 ∷ (signed_decimal z ++ numbers_before zs rest)
+
+-- cut after each number, the bytes are these numbers and what comes after them
+abbrev pub Cuts : List ℕ → List ℤ → List ℕ → Type 0
+Cuts bytes [] rest = bytes ≡ rest
+Cuts bytes (z ∷ zs) rest = (after : List ℕ) × (bytes ≡ 32 ∷ (signed_decimal z ++ after)) × Cuts after zs rest
+
+pub uncut : (bytes : List ℕ) (zs : List ℤ) (rest : List ℕ) → Cuts bytes zs rest → bytes ≡ numbers_before zs rest
+uncut bytes [] rest cuts = cuts
+uncut bytes (z ∷ zs) rest cuts = cuts.1 ∙ ap (λ (b : List ℕ). 32 ∷ (signed_decimal z ++ b)) (uncut cuts.0 zs rest cuts.2)
+
+pub spaced_numbers : (zs : List ℤ) → spaced (map signed_decimal zs) ≡ numbers_before zs []
+spaced_numbers [] = refl
+spaced_numbers (z ∷ zs) = ap (λ (b : List ℕ). 32 ∷ (signed_decimal z ++ b)) (spaced_numbers zs)
+
+-- no word comes before numbers
+pub no_word : (zs : List ℤ) → word_len (numbers_before zs []) ≡ 0
+no_word [] = refl
+no_word (z ∷ zs) = refl
+
+-- ---- the head of an arc
 
 -- what stands in the line of an arc from its id to its flow bounds
 abbrev pub head_text_before : HeadText → List ℕ → List ℕ
-head_text_before h rest = 32 ∷ (h.id ++ (32 ∷ (h.from ++ (32 ∷ (h.to ++ (32 ∷ (signed_decimal h.q_min ++ (32 ∷ (signed_decimal h.q_max ++ rest)))))))))
-
-abbrev pub drag_text_before : Drag → List ℕ → List ℕ
-drag_text_before d rest = 32 ∷ (signed_decimal d.lo ++ (32 ∷ (signed_decimal d.hi ++ (32 ∷ (signed_decimal d.den ++ rest)))))
+head_text_before h rest = 32 ∷ (h.id ++ (32 ∷ (h.from ++ (32 ∷ (h.to ++ numbers_before (h.q_min ∷ h.q_max ∷ []) rest)))))
 
 pub record IsHead (h : HeadText) : Type 0 where
   pub id : IsField h.id
@@ -116,19 +155,18 @@ pub record IsHead (h : HeadText) : Type 0 where
 pub head_again : (h : HeadText) (rest : List ℕ) → IsHead h → word_len rest ≡ 0 → head_at (head_text_before h rest) ≡ Ok (h, rest)
 unfolding head_at
 head_again h rest is e =
-    let r4 : List ℕ = 32 ∷ (signed_decimal h.q_max ++ rest) in
-    let r3 : List ℕ = 32 ∷ (signed_decimal h.q_min ++ r4) in
+    let r4 : List ℕ = numbers_before (h.q_max ∷ []) rest in
+    let r3 : List ℕ = numbers_before (h.q_min ∷ h.q_max ∷ []) rest in
     let r2 : List ℕ = 32 ∷ (h.to ++ r3) in
     let r1 : List ℕ = 32 ∷ (h.from ++ r2) in
     rw (text_again h.id r1 is.id refl, text_again h.from r2 is.from refl, text_again h.to r3 is.to refl, number_again h.q_min r4 is.q_min.fits refl, number_again h.q_max rest is.q_max.fits e) refl
 
-head_joined : (b id from to r1 r2 r3 r4 r5 : List ℕ) (q_min q_max : ℤ) → b ≡ 32 ∷ (id ++ r1) → r1 ≡ 32 ∷ (from ++ r2) → r2 ≡ 32 ∷ (to ++ r3) → r3 ≡ 32 ∷ (signed_decimal q_min ++ r4) → r4 ≡ 32 ∷ (signed_decimal q_max ++ r5)
-    → b ≡ head_text_before (record { id = id; from = from; to = to; q_min = q_min; q_max = q_max }) r5
-head_joined b id from to r1 r2 r3 r4 r5 q_min q_max e1 e2 e3 e4 e5 = rw (e1, e2, e3, e4, e5) refl
+head_joined : (b r1 r2 r3 rest : List ℕ) (h : HeadText) → b ≡ 32 ∷ (h.id ++ r1) → r1 ≡ 32 ∷ (h.from ++ r2) → r2 ≡ 32 ∷ (h.to ++ r3) → r3 ≡ numbers_before (h.q_min ∷ h.q_max ∷ []) rest → b ≡ head_text_before h rest
+head_joined b r1 r2 r3 rest h e1 e2 e3 e4 = rw (e1, e2, e3, e4) refl
 
-pub head_takes : (bytes : List ℕ) (x : HeadText × List ℕ) → head_at bytes ≡ Ok x → IsShort x.0.q_min → IsShort x.0.q_max → bytes ≡ head_text_before x.0 x.1
+pub head_takes : (bytes : List ℕ) (x : HeadText × List ℕ) → head_at bytes ≡ Ok x → AreShort (x.0.q_min ∷ x.0.q_max ∷ []) → bytes ≡ head_text_before x.0 x.1
 unfolding head_at
-head_takes bytes x e low high =
+head_takes bytes x e short =
     let id = bound_ok (text_field bytes) _ x e in
     let from = bound_ok (text_field id.0.1) _ x id.2 in
     let to = bound_ok (text_field from.0.1) _ x from.2 in
@@ -136,29 +174,23 @@ head_takes bytes x e low high =
     let q_max = bound_ok (number_field q_min.0.1) _ x q_min.2 in
     let h : HeadText = record { id = id.0.0; from = from.0.0; to = to.0.0; q_min = q_min.0.0; q_max = q_max.0.0 } in
     let made : (h, q_max.0.1) ≡ x = let is = q_max.2 in cc in
-    let is_low : q_min.0.0 ≡ x.0.q_min = ap (λ (y : HeadText × List ℕ). y.0.q_min) made in
-    let is_high : q_max.0.0 ≡ x.0.q_max = ap (λ (y : HeadText × List ℕ). y.0.q_max) made in
-    head_joined bytes id.0.0 from.0.0 to.0.0 id.0.1 from.0.1 to.0.1 q_min.0.1 q_max.0.1 q_min.0.0 q_max.0.0
-    (text_takes bytes id.0 id.1) (text_takes id.0.1 from.0 from.1) (text_takes from.0.1 to.0 to.1)
-    (number_takes to.0.1 q_min.0 q_min.1 (rw is_low low.within)) (number_takes q_min.0.1 q_max.0 q_max.1 (rw is_high high.within))
-    ∙ ap (λ (y : HeadText × List ℕ). head_text_before y.0 y.1) made
+    let is_short = carry_back (λ (y : HeadText × List ℕ). AreShort (y.0.q_min ∷ y.0.q_max ∷ [])) (h, q_max.0.1) x made short in
+    let numbers = uncut to.0.1 (h.q_min ∷ h.q_max ∷ []) q_max.0.1 (q_min.0.1, number_takes to.0.1 q_min.0 q_min.1 is_short.0.within, (q_max.0.1, number_takes q_min.0.1 q_max.0 q_max.1 is_short.1.0.within, refl)) in
+    carry (λ (y : HeadText × List ℕ). bytes ≡ head_text_before y.0 y.1) (h, q_max.0.1) x made
+    (head_joined bytes id.0.1 from.0.1 to.0.1 q_max.0.1 h (text_takes bytes id.0 id.1) (text_takes id.0.1 from.0 from.1) (text_takes from.0.1 to.0 to.1) numbers)
 
-pub record IsDrag (d : Drag) : Type 0 where
-  pub lo : IsShort d.lo
-  pub hi : IsShort d.hi
-  pub den : IsShort d.den
+-- ---- a resistance
 
-pub drag_again : (d : Drag) (rest : List ℕ) → IsDrag d → word_len rest ≡ 0 → drag_at (drag_text_before d rest) ≡ Ok (d, rest)
+pub drag_again : (d : Drag) (rest : List ℕ) → AreShort (d.lo ∷ d.hi ∷ d.den ∷ []) → word_len rest ≡ 0 → drag_at (numbers_before (d.lo ∷ d.hi ∷ d.den ∷ []) rest) ≡ Ok (d, rest)
 unfolding drag_at
-drag_again d rest is e =
-    let r2 : List ℕ = 32 ∷ (signed_decimal d.den ++ rest) in
-    let r1 : List ℕ = 32 ∷ (signed_decimal d.hi ++ r2) in
-    rw (number_again d.lo r1 is.lo.fits refl, number_again d.hi r2 is.hi.fits refl, number_again d.den rest is.den.fits e) refl
+drag_again d rest short e =
+    rw (
+      number_again d.lo (numbers_before (d.hi ∷ d.den ∷ []) rest) short.0.fits refl,
+      number_again d.hi (numbers_before (d.den ∷ []) rest) short.1.0.fits refl,
+      number_again d.den rest short.1.1.0.fits e,
+    ) refl
 
-drag_joined : (b r1 r2 r3 : List ℕ) (lo hi den : ℤ) → b ≡ 32 ∷ (signed_decimal lo ++ r1) → r1 ≡ 32 ∷ (signed_decimal hi ++ r2) → r2 ≡ 32 ∷ (signed_decimal den ++ r3) → b ≡ drag_text_before (record { lo = lo; hi = hi; den = den }) r3
-drag_joined b r1 r2 r3 lo hi den e1 e2 e3 = rw (e1, e2, e3) refl
-
-pub drag_takes : (bytes : List ℕ) (x : Drag × List ℕ) → drag_at bytes ≡ Ok x → IsDrag x.0 → bytes ≡ drag_text_before x.0 x.1
+pub drag_takes : (bytes : List ℕ) (x : Drag × List ℕ) → drag_at bytes ≡ Ok x → AreShort (x.0.lo ∷ x.0.hi ∷ x.0.den ∷ []) → bytes ≡ numbers_before (x.0.lo ∷ x.0.hi ∷ x.0.den ∷ []) x.1
 unfolding drag_at
 drag_takes bytes x e short =
     let lo = bound_ok (number_field bytes) _ x e in
@@ -166,9 +198,7 @@ drag_takes bytes x e short =
     let den = bound_ok (number_field hi.0.1) _ x hi.2 in
     let d : Drag = record { lo = lo.0.0; hi = hi.0.0; den = den.0.0 } in
     let made : (d, den.0.1) ≡ x = let is = den.2 in cc in
-    let is_lo : lo.0.0 ≡ x.0.lo = ap (λ (y : Drag × List ℕ). y.0.lo) made in
-    let is_hi : hi.0.0 ≡ x.0.hi = ap (λ (y : Drag × List ℕ). y.0.hi) made in
-    let is_den : den.0.0 ≡ x.0.den = ap (λ (y : Drag × List ℕ). y.0.den) made in
-    drag_joined bytes lo.0.1 hi.0.1 den.0.1 lo.0.0 hi.0.0 den.0.0
-    (number_takes bytes lo.0 lo.1 (rw is_lo short.lo.within)) (number_takes lo.0.1 hi.0 hi.1 (rw is_hi short.hi.within)) (number_takes hi.0.1 den.0 den.1 (rw is_den short.den.within))
-    ∙ ap (λ (y : Drag × List ℕ). drag_text_before y.0 y.1) made
+    let is_short = carry_back (λ (y : Drag × List ℕ). AreShort (y.0.lo ∷ y.0.hi ∷ y.0.den ∷ [])) (d, den.0.1) x made short in
+    carry (λ (y : Drag × List ℕ). bytes ≡ numbers_before (y.0.lo ∷ y.0.hi ∷ y.0.den ∷ []) y.1) (d, den.0.1) x made
+    (uncut bytes (d.lo ∷ d.hi ∷ d.den ∷ []) den.0.1
+    (lo.0.1, number_takes bytes lo.0 lo.1 is_short.0.within, (hi.0.1, number_takes lo.0.1 hi.0 hi.1 is_short.1.0.within, (den.0.1, number_takes hi.0.1 den.0 den.1 is_short.1.1.0.within, refl))))

@@ -1,8 +1,7 @@
 -- The one text of a problem.
-use Rattle.std.specs.Prelude.{◌≡◌, ℕ, true, List, [], ◌∷◌, ◌++◌, map, ℤ, codes}
+use Rattle.std.specs.Prelude.{ℕ, List, [], ◌∷◌, ◌++◌, map, ℤ, codes}
 use Rattle.std.specs.Fmt.{signed_decimal}
-use Rattle.std.specs.List.{flat_map, list_all}
-use Rattle.std.specs.Str.{is_utf8}
+use Rattle.std.specs.List.{flat_map}
 use Rattle.gas_model.specs.declared.rows.NodeRow.{NodeRow}
 use Rattle.gas_model.specs.declared.rows.ArcKind.{ArcKind}
 use Rattle.gas_model.specs.declared.rows.ArcKind.TheVariants.{Pipe, Short, Resist, Loss, Valve, Control, Station}
@@ -15,6 +14,10 @@ use Rattle.gas_model.specs.declared.rows.GroupText.{GroupText}
 use Rattle.gas_model.specs.declared.rows.Rows.{Rows}
 use Rattle.gas_model.specs.Rows.{Network, rows_of}
 use Rattle.line_text.specs.Words.{joined}
+
+-- fields, each after one space
+abbrev pub spaced : List (List ℕ) → List ℕ
+spaced fields = flat_map (λ field. 32 ∷ field) fields
 
 -- a word and its fields, each after one space, and a line feed
 abbrev pub line : List ℕ → List (List ℕ) → List ℕ
@@ -75,8 +78,3 @@ rows_text rows =
 -- the one text of a problem
 abbrev pub flat_text : Network → List ℕ
 flat_text p = line (codes "gasflat") (codes "1" ∷ []) ++ rows_text (rows_of p)
-
--- the ids of nodes and arcs are UTF-8
-pub record HasTexts (rows : Rows) : Type 0 where
-  pub nodes : list_all (λ n. is_utf8 n.id) rows.nodes ≡ true
-  pub arcs : list_all (λ a. is_utf8 a.id) rows.arcs ≡ true

@@ -1,5 +1,5 @@
 -- The problem that a text is, or the first line at fault.
-use Rattle.std.specs.Prelude.{◌≡◌, ℕ, ◌+◌, ◌==◌, List, [], ◌∷◌, ◌++◌, length, take, drop, Bool, true, false, if◌then◌else◌, Result, Ok, Err, codes}
+use Rattle.std.specs.Prelude.{◌≡◌, ℕ, ◌+◌, ◌==◌, List, [], ◌∷◌, ◌++◌, length, take, drop, Bool, if◌then◌else◌, Option, Some, None, Result, Ok, Err, codes}
 use Rattle.std.specs.Str.{bytes_eq}
 use Rattle.gas_model.specs.declared.rows.Rows.{Rows}
 use Rattle.gas_model.specs.declared.rows.ModelFault.{ModelFault}
@@ -8,9 +8,11 @@ use Rattle.flat_text.specs.declared.fault.LineFault.{LineFault}
 use Rattle.flat_text.specs.declared.fault.LineFault.TheVariants as line_fault
 use Rattle.flat_text.specs.declared.fault.FlatFault.{FlatFault}
 use Rattle.flat_text.specs.declared.fault.FlatFault.TheVariants as fault
-use Rattle.flat_text.specs.declared.line.FlatLine.{FlatLine}
-use Rattle.flat_text.specs.declared.line.FlatLine.TheVariants.{Node, Arc, End}
-use Rattle.flat_text.specs.Line.{line_in}
+use Rattle.flat_text.specs.declared.line.Item.{Item}
+use Rattle.flat_text.specs.declared.line.Part.{Part}
+use Rattle.flat_text.specs.declared.line.Part.TheVariants as part
+use Rattle.flat_text.specs.Line.{line_in, part_after}
+use Rattle.flat_text.specs.Items.{rows_in}
 
 infixl 10 ◌>>=◌
 abbrev pub ◌>>=◌ : {A B : Type 0} → Result A FlatFault → (A → Result B FlatFault) → Result B FlatFault
@@ -41,28 +43,24 @@ numbered n (Err line_fault.NotFlat) = Err (fault.NotFlat n)
 numbered n (Err line_fault.OverLimit) = Err (fault.OverLimit n)
 numbered n (Err line_fault.NoMemory) = Err fault.NoMemory
 
-abbrev pub placed : ℕ → Bool → List ℕ → Result FlatLine FlatFault
-placed n in_arcs bytes = numbered n (line_in in_arcs bytes)
-
-abbrev pub no_rows : Rows
-no_rows = record { nodes = []; arcs = []; groups = [] }
+abbrev pub placed : ℕ → Part → List ℕ → Result (Option Item) FlatFault
+placed n place bytes = numbered n (line_in place bytes)
 
 -- line n is `end`, and nothing comes after it
-abbrev pub rows_after_end : ℕ → Bool → Result Rows FlatFault
-rows_after_end n last = if last then Ok no_rows else Err (fault.NotFlat (n + 1))
+abbrev pub no_more : ℕ → Bool → Result (List Item) FlatFault
+no_more n last = if last then Ok [] else Err (fault.NotFlat (n + 1))
 
--- the rows of line n, and of the lines after it
-abbrev pub add : ℕ → Bool → Bool → (Bool → Result Rows FlatFault) → FlatLine → Result Rows FlatFault
-add n in_arcs last others (Node row) = others in_arcs >>= λ x. Ok (record x { nodes = row ∷ x.nodes })
-add n in_arcs last others (Arc arc) = others true >>= λ x. Ok (record x { arcs = arc ∷ x.arcs })
-add n in_arcs last others End = rows_after_end n last
+-- the item of line n, and those of the lines after it
+abbrev pub followed : ℕ → Bool → (Part → Result (List Item) FlatFault) → Option Item → Result (List Item) FlatFault
+followed n last others None = no_more n last
+followed n last others (Some item) = others (part_after item) >>= λ items. Ok (item ∷ items)
 
--- the rows of a text from line n on, of which these bytes were passed
-unfoldable pub rows_at : ℕ → Bool → List ℕ → List ℕ → Result Rows FlatFault
-rows_at n in_arcs line [] = Err (fault.NotFlat n)
-rows_at n in_arcs line (b ∷ rest) =
-    if b == 10 then (placed n in_arcs line >>= add n in_arcs (length rest == 0) (λ arcs. rows_at (n + 1) arcs [] rest))
-    else rows_at n in_arcs (line ++ b ∷ []) rest
+-- the items of a text from line n on, of which these bytes were passed
+unfoldable pub items_at : ℕ → Part → List ℕ → List ℕ → Result (List Item) FlatFault
+items_at n place line [] = Err (fault.NotFlat n)
+items_at n place line (b ∷ rest) =
+    if b == 10 then (placed n place line >>= followed n (length rest == 0) (λ next. items_at (n + 1) next [] rest))
+    else items_at n place (line ++ b ∷ []) rest
 
 abbrev pub head_line : List ℕ
 head_line = codes "gasflat 1" ++ 10 ∷ []
@@ -71,8 +69,9 @@ head_line = codes "gasflat 1" ++ 10 ∷ []
 unfoldable pub after_head : List ℕ → Result (List ℕ) FlatFault
 after_head bytes = if bytes_eq (take 10 bytes) head_line then Ok (drop 10 bytes) else Err (fault.NotFlat 1)
 
-abbrev pub rows_in : List ℕ → Result Rows FlatFault
-rows_in bytes = rows_at 2 false [] bytes
+-- the rows that the lines after the head line spell
+abbrev pub rows_at : List ℕ → Result Rows FlatFault
+rows_at bytes = items_at 2 part.Nodes [] bytes >>= λ items. Ok (rows_in items)
 
 abbrev pub modelled : Result Network ModelFault → Result Network FlatFault
 modelled (Ok p) = Ok p
@@ -82,5 +81,5 @@ modelled (Err e) = Err (fault.Model e)
 unfoldable pub flat_of : List ℕ → Result Network FlatFault
 flat_of bytes = do
   rest ← after_head bytes
-  rows ← rows_in rest
+  rows ← rows_at rest
   modelled (problem_of rows)

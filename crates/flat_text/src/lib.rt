@@ -1,13 +1,17 @@
-//! Problems as flat text: a line for each node and each arc, between a head line and `end`.
+//! Problems as flat text: a line for each node, each arc and each word of a decision, between a head line and `end`.
 #![tactic(auto)]
 
+mod draft;
 mod fault;
 mod fields;
+mod kinds;
 mod line;
 mod text;
+mod writing;
 
 pub use fault::FlatFault;
 pub use text::read_flat;
+pub use writing::write_flat;
 
 #[cfg(test)]
 mod tests;

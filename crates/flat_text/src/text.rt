@@ -1,19 +1,20 @@
-ghost use Rattle.std.specs.Prelude.{◌≡◌, ◌^◌, false, [], ◌≤◌, ◌<◌, ◌+◌, ◌==◌, length, IfOk};
-ghost use Rattle.gas_model.specs.Rows.{Network, IsProblem, HasPipesAlone, rows_of};
-ghost use Rattle.flat_text.specs.Text.{Gives, IsRead, placed, no_rows, rows_after_end, after_head, rows_at, flat_of};
-ghost use Rattle.flat_text.specs.Spelling.{flat_text, HasTexts};
+ghost use Rattle.std.specs.Prelude.{◌≡◌, ◌^◌, ℕ, List, [], ◌≤◌, ◌<◌, ◌+◌, ◌==◌, length, Ok, IfOk};
+ghost use Rattle.gas_model.specs.Rows.{Network, IsProblem};
+ghost use Rattle.flat_text.specs.Text.{Gives, IsRead, placed, no_more, after_head, rows_at, flat_of};
+ghost use Rattle.flat_text.specs.Spelling.{flat_text};
 
+use crate::draft::Draft;
 use crate::fault::{FlatFault, LineFault};
-use crate::line::{FlatLine, line_in};
-use gas_model::{List, ModelFault, Problem, Rows};
+use crate::line::{Item, Part, line_in};
+use gas_model::{ModelFault, Problem, Rows};
 use line_text::cut_line;
 use std::alloc::Global;
 
 /// A line at its place and number.
-fn placed(alloc: Global, line: u64, in_arcs: bool, bytes: &[u8]) -> Result<FlatLine, FlatFault>
-    ensures { Gives (λ x. x) result (placed line in_arcs bytes.now) }
+fn placed(alloc: Global, line: u64, part: Part, bytes: &[u8]) -> Result<Option<Item>, FlatFault>
+    ensures { Gives (λ x. x) result (placed line part bytes.now) }
 {
-    match line_in(alloc, in_arcs, bytes) {
+    match line_in(alloc, part, bytes) {
         Ok(x) => Ok(x),
         Err(LineFault::NotFlat) => Err(FlatFault::NotFlat { line }),
         Err(LineFault::OverLimit) => Err(FlatFault::OverLimit { line }),
@@ -36,7 +37,7 @@ fn after_head(bytes: &[u8]) -> Result<&[u8], FlatFault>
 /// Nothing comes after the line `end`.
 fn nothing_after(line: u64, after: &[u8]) -> Result<(), FlatFault>
     requires { line + 1 < 2 ^ 64 }
-    ensures { Gives (λ x. no_rows) result (rows_after_end line (length after.now == 0)) }
+    ensures { Gives (λ x. []) result (no_more line (length after.now == 0)) }
 {
     if after.is_empty() {
         Ok(())
@@ -48,27 +49,18 @@ fn nothing_after(line: u64, after: &[u8]) -> Result<(), FlatFault>
 /// The rows that the lines after the head line spell, or the first line at fault.
 fn read_rows(alloc: Global, bytes: &[u8]) -> Result<Rows, FlatFault>
     requires { length bytes.now + 2 < 2 ^ 64 }
-    ensures { Gives (λ r. r) result (rows_at 2 false [] bytes.now) }
+    ensures { Gives (λ r. r) result (rows_at bytes.now) }
 {
-    let mut nodes = List::new(alloc);
-    let mut arcs = List::new(alloc);
-    let mut in_arcs = false;
+    let mut draft = Draft::new(alloc);
     let mut line = 2;
     let mut rest = bytes;
     while let Some((text, after)) = cut_line(rest) {
-        match placed(alloc, line, in_arcs, text)? {
-            FlatLine::Node(row) => nodes.push(row)?,
-            FlatLine::Arc(arc) => {
-                arcs.push(arc)?;
-                in_arcs = true;
-            }
-            FlatLine::End => {
+        match placed(alloc, line, draft.part(), text)? {
+            Some(item) => draft = draft.add(alloc, item)?,
+            None => {
                 nothing_after(line, after)?;
-                return Ok(Rows {
-                    nodes,
-                    arcs,
-                    groups: List::new(alloc),
-                });
+                let rows = draft.finish()?;
+                return Ok(rows);
             }
         }
         line += 1;
@@ -93,16 +85,31 @@ fn problem_in(alloc: Global, bytes: &[u8]) -> Result<Problem, FlatFault>
 
 /// The problem whose one text the bytes are, or the first line at fault, or what is wrong with the rows.
 ///
-/// The text is the line `gasflat 1`, then `node ID P_MIN P_MAX B_MIN B_MAX` for each node, then
-/// `pipe ID FROM TO Q_MIN Q_MAX LO HI DEN` for each pipe, then `end`, each with a line feed. Fields are parted by one
-/// space. A number is `0` or has no zero in front, after a `-` where it is below 0.
+/// The text is the line `gasflat 1`, then a line for each node, then one for each arc, then the groups, each with its
+/// decisions and their words, then `end`:
+///
+/// ```text
+/// node ID P_MIN P_MAX B_MIN B_MAX
+/// pipe ID FROM TO Q_MIN Q_MAX LO HI DEN
+/// short ID FROM TO Q_MIN Q_MAX
+/// drag ID FROM TO Q_MIN Q_MAX LO HI DEN
+/// loss ID FROM TO Q_MIN Q_MAX LOW HIGH
+/// valve ID FROM TO Q_MIN Q_MAX
+/// control ID FROM TO Q_MIN Q_MAX IN_MIN OUT_MAX RED_MIN RED_MAX
+/// station ID FROM TO Q_MIN Q_MAX IN_MIN OUT_MAX RATIO_NUM RATIO_DEN RISE_MAX
+/// group ID
+/// decision ID
+/// set ARC WORD
+/// ```
+///
+/// WORD is `open`, `closed`, `active`, `bypass` or `on`. Each line has a line feed, and fields are parted by one space.
+/// A number is `0` or has no zero in front, after a `-` where it is below 0.
 pub fn read_flat(alloc: Global, bytes: &[u8]) -> Result<Problem, FlatFault>
     ensures exact { Gives (λ p. p) result (flat_of bytes.now) }
     // What is read was spelled so.
     ensures read { IfOk result (λ p. bytes.now ≡ flat_text p) }
-    // What is spelled so is read: the text of a problem of nodes and pipes, whose ids are UTF-8.
-    ensures spelled { (q : Network) → IsProblem q → HasPipesAlone (rows_of q) → HasTexts (rows_of q)
-        → bytes.now ≡ flat_text q → IsRead q result }
+    // What is spelled so is read.
+    ensures spelled { (q : Network) → IsProblem q → bytes.now ≡ flat_text q → IsRead q result }
 {
     problem_in(alloc, bytes)
 }

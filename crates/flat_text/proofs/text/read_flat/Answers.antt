@@ -7,4 +7,4 @@ pub returns-clause-read : goal.returns-clause-read
 returns-clause-read c = answer_read c.args.bytes.now c.problem_in.result c.problem_in.ensures
 
 pub returns-clause-spelled : goal.returns-clause-spelled
-returns-clause-spelled c = λ q problem alone texts e. answer_spelled c.args.bytes.now c.problem_in.result c.problem_in.ensures q (ap flat_of e ∙ text_again q problem alone texts)
+returns-clause-spelled c = λ q problem e. answer_spelled c.args.bytes.now c.problem_in.result c.problem_in.ensures q (ap flat_of e ∙ text_again q problem)
