@@ -1,3 +1,11 @@
 pub mod Floats
 pub mod Depths
 pub mod Feeds
+pub mod Lists
+pub mod Ids
+pub mod Canonical
+pub mod Whole
+pub mod Texts
+pub mod Pairs
+pub mod EntryFacts
+pub mod Stands

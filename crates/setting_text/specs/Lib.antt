@@ -1,2 +1,4 @@
 pub mod Writing
+pub mod Reading
+pub mod Laws
 pub mod Examples

@@ -1,8 +1,18 @@
-//! Settings as JSON: the text of a setting of a problem.
+//! Settings as JSON: the text of a setting of a problem, and the setting that bytes stand for.
 #![tactic(auto)]
 
+mod entries;
 mod examples;
+mod fault;
+mod laws;
+mod reading;
+#[cfg(test)]
+mod tests;
+mod values;
 mod writing;
 
 pub use examples::{line_at_rest, line_backwards};
+pub use fault::{Key, SettingFault};
+pub use laws::{read_where_it_stands, text_is_read_back};
+pub use reading::read_setting;
 pub use writing::write_setting;

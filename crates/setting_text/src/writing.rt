@@ -1,10 +1,13 @@
 // A setting as a line of JSON.
-ghost use Rattle.std.specs.Prelude.{◌≡◌, ◌<◌, [], ◌∷◌, ◌++◌, Some, length, IfOk};
+ghost use Rattle.std.specs.Prelude.{◌≡◌, ◌<◌, [], ◌∷◌, ◌++◌, Some, Ok, length, IfOk};
 ghost use Rattle.serde_json.specs.Data.{string};
 ghost use Rattle.serde_json.specs.Read.{read};
 ghost use Rattle.serde_json.specs.View.{view};
 ghost use Rattle.gas_model.specs.Choices.{ArePicks};
 ghost use Rattle.gas_model.specs.Near.{SettingFits};
+ghost use Rattle.gas_model.specs.Rows.{IsProblem};
+ghost use Rattle.gas_model.specs.Within.{IsWithin};
+ghost use Rattle.setting_text.specs.Reading.{setting_of, AreOfKinds, StandsFor};
 ghost use Rattle.setting_text.specs.Writing.{state_word, decision_id, arc_data, group_data, node_data, arc_entries, entries, list, setting_data, setting_text};
 
 use gas_model::{ArcRow, ArcState, Bytes, Group, NoMemory, NodeRow, Problem, Setting};
@@ -116,7 +119,9 @@ fn nodes_value(alloc: Global, nodes: &[NodeRow], squares: &[i64]) -> Result<Valu
 // The three lists under their keys.
 fn setting_value(alloc: Global, p: &Problem, s: &Setting) -> Result<Value, NoMemory>
     requires { SettingFits p.now s.now }
-    ensures { IfOk result (λ v. view v ≡ setting_data p.now s.now) }
+    ensures data { IfOk result (λ v. view v ≡ setting_data p.now s.now) }
+    ensures problem { IsProblem p.now }
+    ensures within { IsWithin p.now }
 {
     let arcs = arcs_value(alloc, p.arcs(), s.states.as_slice(), s.flows.as_slice())?;
     let decisions = groups_value(alloc, p.groups(), s.picks.as_slice())?;
@@ -146,6 +151,10 @@ pub fn write_setting(alloc: Global, p: &Problem, s: &Setting) -> Result<Bytes, N
     ensures text { IfOk result (λ t. t ≡ setting_text p.now s.now) }
     // serde_json reads it as the setting's data.
     ensures reads { IfOk result (λ t. read t ≡ Some (setting_data p.now s.now)) }
+    // It stands for the setting, and so is read back, where each state is one of its arc's kind.
+    ensures stands { AreOfKinds p.now.arcs s.now.states → IfOk result (λ t. StandsFor p.now t s.now) }
+    ensures read_back { AreOfKinds p.now.arcs s.now.states
+        → IfOk result (λ t. setting_of p.now t ≡ Ok s.now) }
 {
     let text = setting_value(alloc, p, s)?.to_string(alloc)?;
     line_of(alloc, text.as_str())
