@@ -1,0 +1,14 @@
+pub mod CurveLaws
+pub mod UnitSound
+pub mod Scaled
+pub mod ArcSound
+pub mod NodeSound
+pub mod CutSound
+pub mod States
+pub mod StepSound
+pub mod Induction
+pub mod TreeSound
+pub mod ExampleTrees
+pub mod Loosening
+pub mod RootLaws
+pub mod SameHeads

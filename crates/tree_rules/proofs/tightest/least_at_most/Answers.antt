@@ -1,0 +1,5 @@
+use Rattle.tree_rules.proofs.RootLaws.{least_at_most}
+use Rattle.tree_rules.proofs.tightest.least_at_most.Goals as goal
+
+pub returns : goal.returns
+returns c = least_at_most

@@ -1,0 +1,11 @@
+pub mod ArcRules
+pub mod NodeRules
+pub mod Rules
+pub mod Branches
+pub mod Theorems
+pub mod Examples
+pub mod Looser
+pub mod Roots
+pub mod Values
+pub mod Children
+pub mod Ranges
