@@ -1,5 +1,6 @@
-pub mod EmptySquares
 pub mod NoPoint
+pub mod EmptySquares
 pub mod ZeroFits
-pub mod Refused
+pub mod Held
+pub mod FirstStates
 pub mod Parts

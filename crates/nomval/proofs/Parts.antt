@@ -4,45 +4,65 @@ use Rattle.std.proofs.lemmas.List.{append-nil}
 use Rattle.gas_model.specs.Rows.{Network}
 use Rattle.gas_desk.specs.Outside.{Outside, SameFiles}
 use Rattle.gas_desk.specs.Whole.{HoldsFrontOf}
+use Rattle.nomval.specs.declared.status.InputFile.{InputFile}
+use Rattle.nomval.specs.declared.status.InputFile.TheVariants.{Flat, SettingFile}
+use Rattle.setting_text.specs.Reading.{setting_of}
+use Rattle.nomval.specs.Readings.{problem_held, file_is, stands, IsLongSetting}
 use Rattle.nomval.specs.declared.status.Status.{Status}
-use Rattle.nomval.specs.declared.status.Status.TheVariants.{Accepted, Rejected, Unfinished, Usage, Unread, TooLong, ReadFault, NoMemory, WriteFault}
-use Rattle.nomval.specs.Answers.{Carries, Refutes, HoldsProblem, Writes, WritesPart, HoldsPart, MakesNoFile}
-use Rattle.nomval.specs.Words.{Files}
-
--- where no file changed since, OUT still holds that part
-kept : (files : Files) (before mid now : Outside) → SameFiles mid now → HoldsPart files before mid → HoldsPart files before now
-kept files before mid now same (inl e) = inl (same files.out ∙ e)
-kept files before mid now same (inr w) =
-    let h = w.held in
-    inr (record { problem = w.problem; text = w.text; stands = w.stands; is_text = w.is_text; held = (h.0, h.1, same files.out ∙ h.2, h.3) })
-
--- a whole text is a part too
-whole : (IsText : Network → List ℕ → Type 0) (files : Files) (before now : Outside) → ((p : Network) (text : List ℕ) → IsText p text → Carries p text ⊎ Refutes p text)
-    → Writes IsText files before now → WritesPart files before now
-whole IsText files before now either w =
-    record { problem = w.problem; text = w.text; stands = w.stands; is_text = either w.problem w.text w.is_text; held = (w.text, [], w.held, append-nil w.text) }
-
--- what OUT holds after a command of this status, whose line then wasn't said
-pub part_after : (status : Status) (files : Files) (before mid now : Outside)
-    → (status ≡ Accepted → Writes Carries files before mid)
-    → (status ≡ Rejected → Writes Refutes files before mid)
-    → (MakesNoFile status → SameFiles before mid)
-    → ((status ≡ WriteFault) ⊎ (status ≡ NoMemory) → HoldsPart files before mid)
-    → SameFiles mid now → HoldsPart files before now
-part_after Accepted files before mid now a r u p same = kept files before mid now same (inr (whole Carries files before mid (λ _ _ h. inl h) (a refl)))
-part_after Rejected files before mid now a r u p same = kept files before mid now same (inr (whole Refutes files before mid (λ _ _ h. inr h) (r refl)))
-part_after Unfinished files before mid now a r u p same = kept files before mid now same (inl (u tt files.out))
-part_after (Usage at) files before mid now a r u p same = kept files before mid now same (inl (u tt files.out))
-part_after Unread files before mid now a r u p same = kept files before mid now same (inl (u tt files.out))
-part_after (TooLong file) files before mid now a r u p same = kept files before mid now same (inl (u tt files.out))
-part_after ReadFault files before mid now a r u p same = kept files before mid now same (inl (u tt files.out))
-part_after NoMemory files before mid now a r u p same = kept files before mid now same (p (inr refl))
-part_after WriteFault files before mid now a r u p same = kept files before mid now same (p (inl refl))
+use Rattle.nomval.specs.declared.status.Status.TheVariants.{Accepted, Rejected, Unfinished, Kept, Broken, Usage, BadInput, TooLong, ReadFault, NoMemory, WriteFault}
+use Rattle.nomval.specs.Answers.{Carries, Refutes, HasCarried, HasRefuted, HoldsPart, MakesNoFile}
+use Rattle.nomval.specs.Words.{Plain, solve_flat, replay_flat}
+use Rattle.std.proofs.Common.{ap, sym}
 
 -- what OUT holds where the writing of a text stopped
-pub part_of_text : (files : Files) (p : Network) (text piece : List ℕ) (before mid now : Outside)
-    → HoldsProblem files.problem before p → Carries p text ⊎ Refutes p text → piece ≡ text → SameFiles before mid
-    → (now.files files.out ≡ mid.files files.out) ⊎ HoldsFrontOf files.out piece now → HoldsPart files before now
-part_of_text files p text piece before mid now stands is_text same kept (inl e) = inl (e ∙ kept files.out)
-part_of_text files p text piece before mid now stands is_text same kept (inr h) =
-    inr (record { problem = p; text = text; stands = stands; is_text = is_text; held = (h.0, h.1, h.2, h.3 ∙ same) })
+pub part_of_text : (problem out : List ℕ) (tol : ℕ) (p : Network) (text piece : List ℕ) (before mid now : Outside)
+    → problem_held problem before ≡ stands p → Carries tol p text ⊎ Refutes p text → piece ≡ text → SameFiles before mid
+    → (now.files out ≡ mid.files out) ⊎ HoldsFrontOf out piece now → HoldsPart before now (solve_flat problem out tol)
+part_of_text problem out tol p text piece before mid now is is_text same kept (inl e) = inl (e ∙ kept out)
+part_of_text problem out tol p text piece before mid now is is_text same kept (inr h) =
+    inr (record { network = p; text = text; is = is; is_text = is_text; held = (h.0, h.1, h.2, h.3 ∙ same) })
+
+-- a file that didn't change is as long as it was
+pub long_before : (p : Network) (name : List ℕ) (before mid : Outside) (file : InputFile) → mid.files name ≡ before.files name → IsLongSetting p name mid file → IsLongSetting p name before file
+long_before p name before mid Flat e h = h
+long_before p name before mid SettingFile e h = sym (ap (file_is (setting_of p)) e) ∙ h
+
+-- where no file changed since, OUT still holds that part
+kept : (c : Plain) (before mid now : Outside) → SameFiles mid now → HoldsPart before mid c → HoldsPart before now c
+kept (solve_flat problem out tol) before mid now same (inl e) = inl (same out ∙ e)
+kept (solve_flat problem out tol) before mid now same (inr w) =
+    let h = w.held in
+    inr (record { network = w.network; text = w.text; is = w.is; is_text = w.is_text; held = (h.0, h.1, same out ∙ h.2, h.3) })
+kept (replay_flat problem setting tol) before mid now same h = λ n. same n ∙ h n
+
+-- no file is a part too
+untouched : (c : Plain) (before now : Outside) → SameFiles before now → HoldsPart before now c
+untouched (solve_flat problem out tol) before now same = inl (same out)
+untouched (replay_flat problem setting tol) before now same = same
+
+-- a whole text is a part too
+carried : (c : Plain) (before now : Outside) → HasCarried before now c → HoldsPart before now c
+carried (solve_flat problem out tol) before now w =
+    inr (record { network = w.network; text = w.text; is = w.is; is_text = inl w.is_text; held = (w.text, [], w.held, append-nil w.text) })
+carried (replay_flat problem setting tol) before now w = elim w [ ]
+
+refuted : (c : Plain) (before now : Outside) → HasRefuted before now c → HoldsPart before now c
+refuted (solve_flat problem out tol) before now w =
+    inr (record { network = w.network; text = w.text; is = w.is; is_text = inr w.is_text; held = (w.text, [], w.held, append-nil w.text) })
+refuted (replay_flat problem setting tol) before now w = elim w [ ]
+
+-- what OUT holds after a command of this status, whose line then wasn't said
+pub part_after : (s : Status) (c : Plain) (before mid now : Outside)
+    → (s ≡ Accepted → HasCarried before mid c) → (s ≡ Rejected → HasRefuted before mid c) → (MakesNoFile s → SameFiles before mid)
+    → ((s ≡ WriteFault) ⊎ (s ≡ NoMemory) → HoldsPart before mid c) → SameFiles mid now → HoldsPart before now c
+part_after Accepted c before mid now a r u p same = kept c before mid now same (carried c before mid (a refl))
+part_after Rejected c before mid now a r u p same = kept c before mid now same (refuted c before mid (r refl))
+part_after NoMemory c before mid now a r u p same = kept c before mid now same (p (inr refl))
+part_after WriteFault c before mid now a r u p same = kept c before mid now same (p (inl refl))
+part_after Unfinished c before mid now a r u p same = kept c before mid now same (untouched c before mid (u tt))
+part_after Kept c before mid now a r u p same = kept c before mid now same (untouched c before mid (u tt))
+part_after (Broken law id) c before mid now a r u p same = kept c before mid now same (untouched c before mid (u tt))
+part_after (Usage at) c before mid now a r u p same = kept c before mid now same (untouched c before mid (u tt))
+part_after (BadInput file fault) c before mid now a r u p same = kept c before mid now same (untouched c before mid (u tt))
+part_after (TooLong file) c before mid now a r u p same = kept c before mid now same (untouched c before mid (u tt))
+part_after ReadFault c before mid now a r u p same = kept c before mid now same (untouched c before mid (u tt))

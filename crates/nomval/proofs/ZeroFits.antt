@@ -1,19 +1,21 @@
 -- The zero setting fits its problem.
-use Rattle.std.proofs.Common.{◌≡◌, ℕ, zero, suc, ◌/◌, ◌≤◌, negsuc, true, List, [], ◌∷◌, length, map, Some, refl, ap, sym, subst, ◌∙◌, arith, ℤ, pos, ◌+ℤ◌, ◌*ℤ◌, w64, FitsSigned, ◌≤ℤ◌, int_le, add-one, ◌+◌}
+use Rattle.std.proofs.Common.{◌≡◌, ◌==◌, ◌&&◌, not, ℕ, zero, suc, ◌/◌, ◌<◌, ◌≤◌, negsuc, Bool, true, false, List, [], ◌∷◌, length, map, Some, refl, ap, ◌∙◌, arith, ℤ, pos, ◌+ℤ◌, ◌*ℤ◌, w64, FitsSigned, ◌≤ℤ◌, int_le, add-one, ◌+◌}
 use Rattle.std.specs.Prelude.{slice_get, replicate, int_div}
 use Rattle.std.specs.List.{list_all}
 use Rattle.std.proofs.lemmas.List.{length-map, length-replicate}
 use Rattle.std.proofs.lemmas.Bool.{le-leb}
 use Rattle.std.proofs.lemmas.Int.{fits_signed_from_abs, quot_fits}
 use Rattle.gas_model.specs.declared.rows.NodeRow.{NodeRow}
+use Rattle.gas_model.specs.declared.rows.ArcRow.{ArcRow}
 use Rattle.gas_model.specs.declared.rows.Group.{Group}
+use Rattle.gas_model.specs.declared.rows.Decision.{Decision}
 use Rattle.gas_model.specs.Curves.{square}
-use Rattle.gas_model.specs.Limits.{is_flow, is_square, is_node_within}
+use Rattle.gas_model.specs.Limits.{is_id, is_flow, is_square, is_node_within}
 use Rattle.gas_model.specs.Rows.{Network}
-use Rattle.gas_model.specs.Within.{IsWithin}
+use Rattle.gas_model.specs.Within.{IsWithin, is_group_within}
 use Rattle.gas_model.specs.Choices.{ArePicks}
 use Rattle.gas_model.specs.Near.{SettingFits}
-use Rattle.nomval.specs.Zero.{middle_square, zero_setting}
+use Rattle.nomval.specs.Zero.{middle_square, first_picks, first_states_from, zero_setting}
 use Rattle.nomval.proofs.EmptySquares.{ArePressures, pressures}
 use Rattle.integer_laws.proofs.Ring.{linear, le_true, square_le, square_nonneg}
 use Rattle.integer_laws.proofs.SizeLemmas.{between_within}
@@ -93,13 +95,44 @@ squares_within (node ∷ nodes) h =
     let rest = squares_within nodes (λ i x e. h (i + 1) x (rw add-one e)) in
     rw (square_within node (h 0 node refl)) rest
 
-no_picks : (groups : List Group) → groups ≡ [] → ArePicks groups (replicate (length groups) 0)
-no_picks groups e = subst (λ (g : List Group). ArePicks g (replicate (length g) 0)) (sym e) (record { one_each = refl; within = λ k g j there _. absurd (cc) })
+-- each of several picks of the first decision is 0
+picked_first : (n k j : ℕ) → slice_get (replicate n 0) k ≡ Some j → j ≡ 0
+picked_first zero k j e = absurd cc
+picked_first (suc n) zero j e = cc
+picked_first (suc n) (suc k) j e = picked_first n k j e
+
+both_true : (a b : Bool) → (a && b) ≡ true → (a ≡ true) × (b ≡ true)
+both_true true b h = (refl, h)
+both_true false b h = absurd cc
+
+-- a group of a problem has a first decision
+has_first : (arcs : List ArcRow) (g : Group) → is_group_within arcs g ≡ true → 0 < length g.decisions
+has_first arcs g h = by g.decisions refl
+  where
+    by : (ds : List Decision) → g.decisions ≡ ds → 0 < length ds
+    by [] e =
+        let some : not (length g.decisions == 0) ≡ true = (both_true (is_id g.id) _ (both_true _ _ (both_true _ _ h).0).0).1 in
+        absurd (let same : not (length g.decisions == 0) ≡ false = ap (λ l. not (length l == 0)) e in cc)
+    by (d ∷ ds) e = omega arith
+
+-- the first decision of each group is picked
+first_picked : (p : Network) → IsWithin p → ArePicks p.groups (first_picks p)
+first_picked p w = record {
+  one_each = length-replicate _ _;
+  within = λ k g j there pick.
+      let first : j ≡ 0 = picked_first (length p.groups) k j pick in
+      let some = has_first p.arcs g (w.groups k g there) in
+      omega (arith, first, some);
+}
+
+length_states : (p : Network) (a : ℕ) (rows : List ArcRow) → length (first_states_from p a rows) ≡ length rows
+length_states p a [] = refl
+length_states p a (row ∷ rows) = ap suc (length_states p (a + 1) rows)
 
 pub zero_fits : (p : Network) → IsWithin p → SettingFits p (zero_setting p)
 zero_fits p w = record {
-  picks = no_picks p.groups w.no_groups;
-  states = length-replicate _ _;
+  picks = first_picked p w;
+  states = length_states p 0 p.arcs;
   flows = length-replicate _ _;
   squares = length-map p.nodes middle_square;
   flows_within = zeros_within (length p.arcs);

@@ -1,35 +1,31 @@
 -- What each answer of the program says of the outside.
-use Rattle.std.specs.Prelude.{◌≡◌, ◌⊎◌, ◌≤◌, ℕ, ℤ, pos, List, length, None, Some, Ok, Err}
+use Rattle.std.specs.Prelude.{◌≡◌, ◌⊎◌, ℕ, ℤ, pos, List, None, Some, Ok}
 use Rattle.std.specs.Borrow.{Bor}
+use Rattle.gas_model.specs.declared.rows.Setting.{Setting}
 use Rattle.gas_model.specs.declared.rows.Var.{Var}
 use Rattle.gas_model.specs.Rows.{Network}
 use Rattle.gas_model.specs.Points.{IsInfeasible}
 use Rattle.gas_model.specs.Near.{IsNear}
 use Rattle.gas_desk.specs.Outside.{Outside, Rose, SameBut, SameFiles}
 use Rattle.gas_desk.specs.Whole.{HoldsFrontOf}
-use Rattle.flat_text.specs.declared.fault.FlatFault.{FlatFault}
-use Rattle.flat_text.specs.declared.fault.FlatFault.TheVariants as fault
-use Rattle.flat_text.specs.Text.{flat_of}
+use Rattle.element_laws.specs.declared.broken.Broken.{Broken}
+use Rattle.element_laws.specs.FirstBroken.{IsFirstBroken}
 use Rattle.nomval.specs.declared.answer.Answer.{Answer}
 use Rattle.nomval.specs.declared.answer.Answer.TheVariants.{Carried, Refuted, Open}
 use Rattle.nomval.specs.declared.status.Status.{Status}
-use Rattle.nomval.specs.declared.status.Status.TheVariants.{Unfinished, Usage, Unread, TooLong, ReadFault, NoMemory}
+use Rattle.nomval.specs.declared.status.Status.TheVariants as status
+use Rattle.nomval.specs.declared.status.InputFile.{InputFile}
+use Rattle.nomval.specs.declared.status.InputFault.{InputFault}
 use Rattle.setting_text.specs.Writing.{setting_text}
 use Rattle.nomval.specs.Opening.{first_empty, empty_tree}
-use Rattle.nomval.specs.Words.{Files, plain, texts}
+use Rattle.nomval.specs.Readings.{problem_held, setting_held, stands, IsBadProblem, IsBadSetting, IsLongProblem, IsLongSetting}
+use Rattle.nomval.specs.Words.{Plain, solve_flat, replay_flat, plain, texts}
 use Rattle.nomval.specs.Zero.{zero_setting}
-
--- the most bytes that an input file may have
-abbrev pub limit : ℕ
-limit = 67108864
-
--- how far a drop of squares may be off, in Pa^2
-abbrev pub tolerance : ℤ
-tolerance = pos 100000000
+use Rattle.nomval.specs.Named.{id_of}
 
 -- no variable is empty, and the text is that of one setting, the zero setting, which carries the problem within the tolerance
-pub record Carries (p : Network) (text : List ℕ) : Type 0 where
-  pub near : IsNear p tolerance (zero_setting p)
+pub record Carries (tol : ℕ) (p : Network) (text : List ℕ) : Type 0 where
+  pub near : IsNear p (pos tol) (zero_setting p)
   pub written : text ≡ setting_text p (zero_setting p)
   pub not_empty : first_empty p ≡ None
 
@@ -41,89 +37,154 @@ pub record Refutes (p : Network) (text : List ℕ) : Type 0 where
   pub infeasible : IsInfeasible p
 
 -- no variable is empty, and the zero setting isn't near
-pub record IsOpen (p : Network) : Type 0 where
+pub record IsOpen (tol : ℕ) (p : Network) : Type 0 where
   pub not_empty : first_empty p ≡ None
-  pub not_near : IsNear p tolerance (zero_setting p) → ⊥
+  pub not_near : IsNear p (pos tol) (zero_setting p) → ⊥
 
 -- what is found for a problem
-abbrev pub IsAnswer : Network → Answer → Type 0
-IsAnswer p (Carried text) = Carries p text
-IsAnswer p (Refuted text) = Refutes p text
-IsAnswer p Open = IsOpen p
-
--- the file holds bytes, no more than the limit, that stand for the problem
-pub record HoldsProblem (name : List ℕ) (before : Outside) (p : Network) : Type 0 where
-  pub bytes : List ℕ
-  pub held : before.files name ≡ Some bytes
-  pub fits : length bytes ≤ limit
-  pub stands : flat_of bytes ≡ Ok p
-
--- the bytes are the text of no problem of nodes and pipes
-abbrev pub StandsForNone : List ℕ → Type 0
-StandsForNone bytes = (fault : FlatFault) × (flat_of bytes ≡ Err fault)
-
--- the file holds bytes, no more than the limit, that are the text of no problem
-pub record HoldsNone (name : List ℕ) (before : Outside) : Type 0 where
-  pub bytes : List ℕ
-  pub held : before.files name ≡ Some bytes
-  pub fits : length bytes ≤ limit
-  pub refused : StandsForNone bytes
-
--- the status of a text that can't be read
-abbrev pub unread_status : FlatFault → Status
-unread_status fault.NoMemory = NoMemory
-unread_status (fault.NotFlat line) = Unread
-unread_status (fault.OverLimit line) = Unread
-unread_status (fault.Model offence) = Unread
+abbrev pub IsAnswer : ℕ → Network → Answer → Type 0
+IsAnswer tol p (Carried text) = Carries tol p text
+IsAnswer tol p (Refuted text) = Refutes p text
+IsAnswer tol p Open = IsOpen tol p
 
 -- OUT holds exactly a text for the problem that the input file stands for
-pub record Writes (IsText : Network → List ℕ → Type 0) (files : Files) (before now : Outside) : Type 0 where
-  pub problem : Network
+pub record Writes (IsText : Network → List ℕ → Type 0) (problem out : List ℕ) (before now : Outside) : Type 0 where
+  pub network : Network
   pub text : List ℕ
-  pub stands : HoldsProblem files.problem before problem
-  pub is_text : IsText problem text
-  pub held : now.files files.out ≡ Some text
+  pub is : problem_held problem before ≡ stands network
+  pub is_text : IsText network text
+  pub held : now.files out ≡ Some text
 
 -- OUT holds a front of a text with which the command could have ended, which may be all of it
-pub record WritesPart (files : Files) (before now : Outside) : Type 0 where
-  pub problem : Network
+pub record WritesPart (problem out : List ℕ) (tol : ℕ) (before now : Outside) : Type 0 where
+  pub network : Network
   pub text : List ℕ
-  pub stands : HoldsProblem files.problem before problem
-  pub is_text : Carries problem text ⊎ Refutes problem text
-  pub held : HoldsFrontOf files.out text now
+  pub is : problem_held problem before ≡ stands network
+  pub is_text : Carries tol network text ⊎ Refutes network text
+  pub held : HoldsFrontOf out text now
+
+-- the command writes a setting that carries its problem
+abbrev pub HasCarried : Outside → Outside → Plain → Type 0
+HasCarried before now (solve_flat problem out tol) = Writes (Carries tol) problem out before now
+HasCarried before now (replay_flat problem setting tol) = ⊥
+
+-- the command writes a tree that refutes its problem
+abbrev pub HasRefuted : Outside → Outside → Plain → Type 0
+HasRefuted before now (solve_flat problem out tol) = Writes Refutes problem out before now
+HasRefuted before now (replay_flat problem setting tol) = ⊥
+
+-- the command's problem is left open
+abbrev pub LeavesOpen : Outside → Plain → Type 0
+LeavesOpen before (solve_flat problem out tol) = (p : Network) × (problem_held problem before ≡ stands p) × IsOpen tol p
+LeavesOpen before (replay_flat problem setting tol) = ⊥
+
+-- a setting of a problem, as two files say them
+pub record Replays (problem setting : List ℕ) (before : Outside) (p : Network) (s : Setting) : Type 0 where
+  pub problem_is : problem_held problem before ≡ stands p
+  pub setting_is : setting_held p setting before ≡ stands s
+
+-- the setting of the command carries its problem
+abbrev pub IsKept : Outside → Plain → Type 0
+IsKept before (solve_flat problem out tol) = ⊥
+IsKept before (replay_flat problem setting tol) = (p : Network) × (s : Setting) × Replays problem setting before p s × IsNear p (pos tol) s
+
+-- the setting of the command doesn't
+abbrev pub IsNotKept : Outside → Plain → Type 0
+IsNotKept before (solve_flat problem out tol) = ⊥
+IsNotKept before (replay_flat problem setting tol) = (p : Network) × (s : Setting) × Replays problem setting before p s × (IsNear p (pos tol) s → ⊥)
+
+-- the setting of the command breaks this law first, which is that of the arc or node of this id
+abbrev pub Breaks : Outside → Broken → List ℕ → Plain → Type 0
+Breaks before law id (solve_flat problem out tol) = ⊥
+Breaks before law id (replay_flat problem setting tol) =
+    (p : Network) × (s : Setting) × Replays problem setting before p s × IsFirstBroken p (pos tol) s law × (id ≡ id_of p law)
+
+-- the first input file that stands for nothing is this one, with this fault
+abbrev pub FirstOffence : Outside → InputFile → InputFault → Plain → Type 0
+FirstOffence before file fault (solve_flat problem out tol) = IsBadProblem problem before file fault
+FirstOffence before file fault (replay_flat problem setting tol) =
+    IsBadProblem problem before file fault ⊎ ((p : Network) × (problem_held problem before ≡ stands p) × IsBadSetting p setting before file fault)
+
+-- the first input file that stands for nothing is this one, since it is too long
+abbrev pub IsTooLong : Outside → InputFile → Plain → Type 0
+IsTooLong before file (solve_flat problem out tol) = IsLongProblem problem before file
+IsTooLong before file (replay_flat problem setting tol) =
+    IsLongProblem problem before file ⊎ ((p : Network) × (problem_held problem before ≡ stands p) × IsLongSetting p setting before file)
+
+-- the read count of this file rose
+abbrev pub ReadRose : List ℕ → Outside → Outside → Type 0
+ReadRose name before now = Rose (before.read_faults name) (now.read_faults name)
+
+-- the read count of an input file of the command rose
+abbrev pub HasReadFault : Outside → Outside → Plain → Type 0
+HasReadFault before now (solve_flat problem out tol) = ReadRose problem before now
+HasReadFault before now (replay_flat problem setting tol) = ReadRose problem before now ⊎ ReadRose setting before now
+
+-- that of the first file, or of the second where the first stands for a problem
+abbrev pub HasReadFaultInOrder : Outside → Outside → Plain → Type 0
+HasReadFaultInOrder before now (solve_flat problem out tol) = ReadRose problem before now
+HasReadFaultInOrder before now (replay_flat problem setting tol) =
+    ReadRose problem before now ⊎ ((p : Network) × (problem_held problem before ≡ stands p) × ReadRose setting before now)
+
+-- no file but OUT changed
+abbrev pub OnlyOutChanges : Outside → Outside → Plain → Type 0
+OnlyOutChanges before now (solve_flat problem out tol) = SameBut out before now
+OnlyOutChanges before now (replay_flat problem setting tol) = SameFiles before now
 
 -- OUT is as before, or holds a front of a text with which the command could have ended
-abbrev pub HoldsPart : Files → Outside → Outside → Type 0
-HoldsPart files before now = (now.files files.out ≡ before.files files.out) ⊎ WritesPart files before now
-
--- the input file stands for a problem that is left open
-abbrev pub LeavesOpen : Files → Outside → Type 0
-LeavesOpen files before = (p : Network) × HoldsProblem files.problem before p × IsOpen p
+abbrev pub HoldsPart : Outside → Outside → Plain → Type 0
+HoldsPart before now (solve_flat problem out tol) = (now.files out ≡ before.files out) ⊎ WritesPart problem out tol before now
+HoldsPart before now (replay_flat problem setting tol) = SameFiles before now
 
 -- a status with which no file is made
 abbrev pub MakesNoFile : Status → Type 0
-MakesNoFile (Usage at) = Unit {0}
-MakesNoFile Unread = Unit {0}
-MakesNoFile Unfinished = Unit {0}
-MakesNoFile (TooLong file) = Unit {0}
-MakesNoFile ReadFault = Unit {0}
-MakesNoFile status = ⊥
+MakesNoFile status.Accepted = ⊥
+MakesNoFile status.Rejected = ⊥
+MakesNoFile status.NoMemory = ⊥
+MakesNoFile status.WriteFault = ⊥
+MakesNoFile s = Unit {0}
 
--- the words are plain, and this holds of their files
-abbrev pub ForFiles : List (Bor (List ℕ)) → (Files → Type 0) → Type 0
-ForFiles words P = (files : Files) × (plain (texts words) ≡ Ok files) × P files
+-- a status with which a line is said
+abbrev pub SaysLine : Status → Type 0
+SaysLine status.NoMemory = ⊥
+SaysLine status.WriteFault = ⊥
+SaysLine s = Unit {0}
 
--- no file but OUT changed, and none where the words aren't plain
-pub record OnlyOutChanges (words : List (Bor (List ℕ))) (before now : Outside) : Type 0 where
-  pub command : (files : Files) → plain (texts words) ≡ Ok files → SameBut files.out before now
-  pub no_command : (at : ℕ) → plain (texts words) ≡ Err at → SameFiles before now
+-- the words are plain, and this holds of their command
+abbrev pub ForCommand : List (Bor (List ℕ)) → (Plain → Type 0) → Type 0
+ForCommand words P = (c : Plain) × (plain (texts words) ≡ Ok c) × P c
 
--- where the words are plain, OUT is as before or holds a front of a text
-abbrev pub EndsInPart : List (Bor (List ℕ)) → Outside → Outside → Type 0
-EndsInPart words before now = (files : Files) → plain (texts words) ≡ Ok files → HoldsPart files before now
+-- where the words are plain, this holds of their command
+abbrev pub OnCommand : List (Bor (List ℕ)) → (Plain → Type 0) → Type 0
+OnCommand words P = (c : Plain) → plain (texts words) ≡ Ok c → P c
 
--- the words are plain, and neither the read count of the input file nor the write count rose
-pub record IsUndisturbed (words : List (Bor (List ℕ))) (files : Files) (before now : Outside) : Type 0 where
-  pub command : plain (texts words) ≡ Ok files
-  pub reads : Rose (before.read_faults files.problem) (now.read_faults files.problem) → ⊥
+-- the words are those of this command, and neither the read count of an input file of it nor the write count rose
+pub record IsUndisturbed (words : List (Bor (List ℕ))) (before now : Outside) (c : Plain) : Type 0 where
+  pub command : plain (texts words) ≡ Ok c
+  pub reads : HasReadFault before now c → ⊥
   pub writes : Rose before.write_faults now.write_faults → ⊥
+
+-- the files of the command stand for what it needs
+abbrev pub FilesStand : Outside → Plain → Type 0
+FilesStand before (solve_flat problem out tol) = (p : Network) × (problem_held problem before ≡ stands p)
+FilesStand before (replay_flat problem setting tol) = (p : Network) × (s : Setting) × Replays problem setting before p s
+
+-- the command did its work: it decided its problem or left it open, or told whether its setting carries its problem
+abbrev pub IsDone : Status → Plain → Type 0
+IsDone status.Accepted (solve_flat problem out tol) = Unit {0}
+IsDone status.Rejected (solve_flat problem out tol) = Unit {0}
+IsDone status.Unfinished (solve_flat problem out tol) = Unit {0}
+IsDone status.Kept (replay_flat problem setting tol) = Unit {0}
+IsDone (status.Broken law id) (replay_flat problem setting tol) = Unit {0}
+IsDone s c = ⊥
+
+abbrev pub IsBroken : Status → Type 0
+IsBroken (status.Broken law id) = Unit {0}
+IsBroken s = ⊥
+
+-- the setting carries the problem, or breaks this law first, which is that of the arc or node of this id
+abbrev pub IsJudged : Network → ℤ → Setting → Status → Type 0
+IsJudged p tol s status.Kept = IsNear p tol s
+IsJudged p tol s (status.Broken law id) = IsFirstBroken p tol s law × (IsNear p tol s → ⊥) × (id ≡ id_of p law)
+IsJudged p tol s status.NoMemory = Unit {0}
+IsJudged p tol s status = ⊥

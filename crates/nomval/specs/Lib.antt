@@ -3,4 +3,7 @@ pub mod Lines
 pub mod Exits
 pub mod Opening
 pub mod Zero
+pub mod Named
+pub mod Readings
 pub mod Answers
+pub mod Refusals

@@ -1,8 +1,9 @@
 // What is found for a problem.
-ghost use Rattle.std.specs.Prelude.{◌≡◌, IfOk, IfSome, MatchOption};
+ghost use Rattle.std.specs.Prelude.{◌≡◌, ◌≤◌, pos, IfOk, IfSome, MatchOption};
 ghost use Rattle.gas_model.specs.Near.{IsNear};
 ghost use Rattle.setting_text.specs.Writing.{setting_text};
-ghost use Rattle.nomval.specs.Answers.{tolerance, IsAnswer};
+ghost use Rattle.nomval.specs.Answers.{IsAnswer};
+ghost use Rattle.nomval.specs.Words.{most_tolerance};
 ghost use Rattle.nomval.specs.Zero.{zero_setting};
 
 use crate::opening::{first_empty, write_empty_tree};
@@ -11,9 +12,6 @@ use element_laws::first_broken;
 use gas_model::{Bytes, NoMemory, Problem};
 use setting_text::write_setting;
 use std::alloc::Global;
-
-// How far a drop of squares may be off, in Pa^2.
-const TOLERANCE: i128 = 100_000_000;
 
 /// What is found for a problem.
 #[derive(Debug, Drop)]
@@ -27,13 +25,14 @@ pub enum Answer {
 }
 
 // The text of the zero setting, where it is near.
-fn carry(alloc: Global, p: &Problem) -> Result<Option<Bytes>, NoMemory>
-    ensures near { IfOk result (λ text. MatchOption text (IsNear p.now tolerance (zero_setting p.now) → ⊥)
-        (λ text. IsNear p.now tolerance (zero_setting p.now))) }
+fn carry(alloc: Global, p: &Problem, tol: u64) -> Result<Option<Bytes>, NoMemory>
+    requires { tol ≤ most_tolerance }
+    ensures near { IfOk result (λ text. MatchOption text (IsNear p.now (pos tol) (zero_setting p.now) → ⊥)
+        (λ text. IsNear p.now (pos tol) (zero_setting p.now))) }
     ensures text { IfOk result (λ text. IfSome text (λ text. text ≡ setting_text p.now (zero_setting p.now))) }
 {
     let setting = zero_setting(alloc, p)?;
-    if first_broken(p, &setting, TOLERANCE).is_some() {
+    if first_broken(p, &setting, tol as i128).is_some() {
         return Ok(None);
     }
     let text = write_setting(alloc, p, &setting)?;
@@ -41,13 +40,14 @@ fn carry(alloc: Global, p: &Problem) -> Result<Option<Bytes>, NoMemory>
 }
 
 // A tree, where a variable of the opening box is empty, else the zero setting, where it is near.
-pub fn answer_of(alloc: Global, p: &Problem) -> Result<Answer, NoMemory>
-    ensures { IfOk result (IsAnswer p.now) }
+pub fn answer_of(alloc: Global, p: &Problem, tol: u64) -> Result<Answer, NoMemory>
+    requires { tol ≤ most_tolerance }
+    ensures { IfOk result (IsAnswer tol p.now) }
 {
     if let Some(var) = first_empty(p) {
         return Ok(Answer::Refuted(write_empty_tree(alloc, var)?));
     }
-    match carry(alloc, p)? {
+    match carry(alloc, p, tol)? {
         Some(text) => Ok(Answer::Carried(text)),
         None => Ok(Answer::Open),
     }

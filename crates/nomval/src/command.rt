@@ -1,24 +1,25 @@
 // All that the program does.
-ghost use Rattle.std.specs.Prelude.{◌≡◌, ◌⊎◌, ◌++◌, ◌∷◌, [], ℕ, false, Err, IfErr, IsErrOf, OnOk, OnErr};
+ghost use Rattle.std.specs.Prelude.{◌≡◌, ◌⊎◌, ◌≤◌, ◌++◌, ◌∷◌, [], ℕ, List, false, Err, IfErr, IsErrOf, OnOk, OnErr};
 ghost use Rattle.gas_desk.specs.Outside.{CountsOn, Rose, SameFiles, SameWriting};
-ghost use Rattle.gas_desk.specs.Whole.{LongerThan};
-ghost use Rattle.gas_model.specs.Rows.{Network};
-ghost use Rattle.nomval.specs.Answers.{limit, Carries, Refutes, HoldsProblem, HoldsNone, Writes, LeavesOpen, MakesNoFile, ForFiles, OnlyOutChanges, EndsInPart, IsUndisturbed};
+ghost use Rattle.element_laws.specs.declared.broken.Broken.{Broken};
+ghost use Rattle.nomval.specs.Answers.{HasCarried, HasRefuted, LeavesOpen, IsKept, IsNotKept, Breaks, FirstOffence, IsTooLong, HasReadFault, HasReadFaultInOrder, HoldsPart, OnlyOutChanges, MakesNoFile, SaysLine, ForCommand, OnCommand, IsUndisturbed, FilesStand, IsDone, IsBroken};
 ghost use Rattle.nomval.specs.Lines.{line_of};
-ghost use Rattle.nomval.specs.Words.{Files, plain, texts};
+ghost use Rattle.nomval.specs.Words.{Plain, plain, plain_of, texts, tolerance_of, most_tolerance};
 ghost use Rattle.nomval.specs.declared.status.InputFile.{InputFile};
+ghost use Rattle.nomval.specs.declared.status.InputFault.{InputFault};
 
 use crate::Status;
 use crate::lines::line_of;
+use crate::replay::replay_flat;
 use crate::solve::solve_flat;
-use crate::words::read_words;
+use crate::words::{Command, read_words};
 use gas_desk::{Desk, DeskStop};
 use gas_model::NoMemory;
 use std::alloc::Global;
 
-// Says a line, or answers the status that says why it isn't said.
-fn say_line<D: Desk>(alloc: Global, desk: &mut D, status: Status) -> Result<(), Status>
-    ensures said { D.tells → OnOk result ((D.outside desk.new).said ≡ (D.outside desk.old).said ++ line_of status ++ 10 ∷ []) }
+// Says the line of a status, or answers the status that says why it isn't said.
+fn say_line<D: Desk>(alloc: Global, desk: &mut D, status: &Status) -> Result<(), Status>
+    ensures said { D.tells → OnOk result ((D.outside desk.new).said ≡ (D.outside desk.old).said ++ line_of status.now ++ 10 ∷ []) }
     ensures silent { D.tells → OnErr result ((D.outside desk.new).said ≡ (D.outside desk.old).said) }
     ensures write_fault { IsErrOf result Status.WriteFault → Rose (D.outside desk.old).write_faults (D.outside desk.new).write_faults }
     ensures refusals { IfErr result (λ status. (status ≡ Status.WriteFault) ⊎ (status ≡ Status.NoMemory)) }
@@ -42,8 +43,7 @@ fn conclude<D: Desk>(alloc: Global, desk: &mut D, status: Status) -> Status
     ensures kept { (result ≡ status) ⊎ ((result ≡ Status.NoMemory) ⊎ (result ≡ Status.WriteFault)) }
     ensures fault { (result ≡ status → ⊥) → result ≡ Status.WriteFault → Rose (D.outside desk.old).write_faults (D.outside desk.new).write_faults }
     ensures silent { D.tells → (result ≡ Status.NoMemory) ⊎ (result ≡ Status.WriteFault) → (D.outside desk.new).said ≡ (D.outside desk.old).said }
-    ensures said { D.tells → (result ≡ Status.NoMemory → ⊥) → (result ≡ Status.WriteFault → ⊥)
-        → (D.outside desk.new).said ≡ (D.outside desk.old).said ++ line_of result ++ 10 ∷ [] }
+    ensures said { D.tells → SaysLine result → (D.outside desk.new).said ≡ (D.outside desk.old).said ++ line_of result ++ 10 ∷ [] }
     ensures writing { SameWriting (D.outside desk.old) (D.outside desk.new) }
     ensures files { D.tells → SameFiles (D.outside desk.old) (D.outside desk.new) }
     ensures counts { CountsOn (D.outside desk.old) (D.outside desk.new) }
@@ -52,58 +52,96 @@ fn conclude<D: Desk>(alloc: Global, desk: &mut D, status: Status) -> Status
         Status::NoMemory | Status::WriteFault => return status,
         _ => {}
     }
-    match say_line(alloc, desk, status) {
+    match say_line(alloc, desk, &status) {
         Ok(()) => status,
         Err(stopped) => stopped,
     }
 }
 
+// Does the work of a command.
+fn execute<D: Desk>(alloc: Global, desk: &mut D, command: Command<'_>) -> Status
+    requires { tolerance_of (plain_of command) ≤ most_tolerance }
+    ensures accepted { D.tells → result ≡ Status.Accepted → HasCarried (D.outside desk.old) (D.outside desk.new) (plain_of command.entry) }
+    ensures rejected { D.tells → result ≡ Status.Rejected → HasRefuted (D.outside desk.old) (D.outside desk.new) (plain_of command.entry) }
+    ensures finished { (result ≡ Status.Accepted) ⊎ (result ≡ Status.Rejected) → (D.outside desk.new).writing ≡ false }
+    ensures unfinished { D.tells → result ≡ Status.Unfinished → LeavesOpen (D.outside desk.old) (plain_of command.entry) }
+    ensures kept { D.tells → result ≡ Status.Kept → IsKept (D.outside desk.old) (plain_of command.entry) }
+    ensures broken { D.tells → (law : Broken) (id : List ℕ) → result ≡ Status.Broken law id → Breaks (D.outside desk.old) law id (plain_of command.entry) }
+    ensures not_kept { D.tells → (law : Broken) (id : List ℕ) → result ≡ Status.Broken law id → IsNotKept (D.outside desk.old) (plain_of command.entry) }
+    ensures bad_input { D.tells → (file : InputFile) (fault : InputFault) → result ≡ Status.BadInput file fault → FirstOffence (D.outside desk.old) file fault (plain_of command.entry) }
+    ensures too_long { D.tells → (file : InputFile) → result ≡ Status.TooLong file → IsTooLong (D.outside desk.old) file (plain_of command.entry) }
+    ensures read_fault { result ≡ Status.ReadFault → HasReadFault (D.outside desk.old) (D.outside desk.new) (plain_of command.entry) }
+    ensures read_order { D.tells → result ≡ Status.ReadFault → HasReadFaultInOrder (D.outside desk.old) (D.outside desk.new) (plain_of command.entry) }
+    ensures write_fault { result ≡ Status.WriteFault → Rose (D.outside desk.old).write_faults (D.outside desk.new).write_faults }
+    ensures never { (at : ℕ) → result ≡ Status.Usage at → ⊥ }
+    ensures untouched { D.tells → MakesNoFile result → SameFiles (D.outside desk.old) (D.outside desk.new) }
+    ensures part { D.tells → (result ≡ Status.WriteFault) ⊎ (result ≡ Status.NoMemory) → HoldsPart (D.outside desk.old) (D.outside desk.new) (plain_of command.entry) }
+    ensures others { D.tells → OnlyOutChanges (D.outside desk.old) (D.outside desk.new) (plain_of command.entry) }
+    ensures said { D.tells → (D.outside desk.new).said ≡ (D.outside desk.old).said }
+    ensures counts { CountsOn (D.outside desk.old) (D.outside desk.new) }
+{
+    match command {
+        Command::SolveFlat { problem, out, tol } => solve_flat(alloc, desk, problem, out, tol),
+        Command::ReplayFlat {
+            problem,
+            setting,
+            tol,
+        } => replay_flat(alloc, desk, problem, setting, tol),
+    }
+}
+
 /// Does all that the program does: answers the words of the command line, which come after the program's name, over a
-/// desk. `solve-flat PROBLEM OUT` reads a flat problem and writes a setting or a refutation tree.
+/// desk.
+///
+/// `solve-flat PROBLEM OUT [--tol n]` reads a flat problem and writes a setting or a refutation tree;
+/// `replay-flat PROBLEM SETTING [--tol n]` tells whether a setting carries a problem. The tolerance is in Pa^2, from 0
+/// to 10^16, and 10^8 where none is given. The order is: the words; PROBLEM: whether it can be read, its length, what it
+/// stands for; SETTING, if there is one, likewise; the work; OUT; the line.
 pub fn run<D: Desk>(alloc: Global, words: &[&str], desk: &mut D) -> Status
     // The answers, with what OUT then holds.
-    ensures accepted { D.tells → result ≡ Status.Accepted → ForFiles words.now (λ files.
-        Writes Carries files (D.outside desk.old) (D.outside desk.new)) }
-    ensures rejected { D.tells → result ≡ Status.Rejected → ForFiles words.now (λ files.
-        Writes Refutes files (D.outside desk.old) (D.outside desk.new)) }
+    ensures accepted { D.tells → result ≡ Status.Accepted → ForCommand words.now (HasCarried (D.outside desk.old) (D.outside desk.new)) }
+    ensures rejected { D.tells → result ≡ Status.Rejected → ForCommand words.now (HasRefuted (D.outside desk.old) (D.outside desk.new)) }
     ensures finished { (result ≡ Status.Accepted) ⊎ (result ≡ Status.Rejected) → (D.outside desk.new).writing ≡ false }
-    ensures unfinished { D.tells → result ≡ Status.Unfinished → ForFiles words.now (λ files.
-        LeavesOpen files (D.outside desk.old)) }
+    ensures unfinished { D.tells → result ≡ Status.Unfinished → ForCommand words.now (LeavesOpen (D.outside desk.old)) }
+    ensures kept { D.tells → result ≡ Status.Kept → ForCommand words.now (IsKept (D.outside desk.old)) }
+    ensures broken { D.tells → (law : Broken) (id : List ℕ) → result ≡ Status.Broken law id → ForCommand words.now (Breaks (D.outside desk.old) law id) }
+    ensures not_kept { D.tells → (law : Broken) (id : List ℕ) → result ≡ Status.Broken law id → ForCommand words.now (IsNotKept (D.outside desk.old)) }
 
-    // The causes of each refusal.
+    // The causes of each refusal, and their order.
     ensures usage { (at : ℕ) → result ≡ Status.Usage at → plain (texts words.now) ≡ Err at }
-    ensures unread { D.tells → result ≡ Status.Unread → ForFiles words.now (λ files.
-        HoldsNone files.problem (D.outside desk.old)) }
-    ensures too_long { D.tells → (file : InputFile) → result ≡ Status.TooLong file → ForFiles words.now (λ files.
-        LongerThan limit files.problem (D.outside desk.old)) }
-    ensures read_fault { result ≡ Status.ReadFault → ForFiles words.now (λ files.
-        Rose ((D.outside desk.old).read_faults files.problem) ((D.outside desk.new).read_faults files.problem)) }
+    ensures bad_input { D.tells → (file : InputFile) (fault : InputFault) → result ≡ Status.BadInput file fault → ForCommand words.now (FirstOffence (D.outside desk.old) file fault) }
+    ensures too_long { D.tells → (file : InputFile) → result ≡ Status.TooLong file → ForCommand words.now (IsTooLong (D.outside desk.old) file) }
+    ensures read_fault { result ≡ Status.ReadFault → ForCommand words.now (HasReadFault (D.outside desk.old) (D.outside desk.new)) }
+    ensures read_order { D.tells → result ≡ Status.ReadFault → ForCommand words.now (HasReadFaultInOrder (D.outside desk.old) (D.outside desk.new)) }
     ensures write_fault { result ≡ Status.WriteFault → Rose (D.outside desk.old).write_faults (D.outside desk.new).write_faults }
 
     // What stands after it.
     ensures untouched { D.tells → MakesNoFile result → SameFiles (D.outside desk.old) (D.outside desk.new) }
-    ensures part { D.tells → (result ≡ Status.WriteFault) ⊎ (result ≡ Status.NoMemory) → EndsInPart words.now (D.outside desk.old) (D.outside desk.new) }
-    ensures others { D.tells → OnlyOutChanges words.now (D.outside desk.old) (D.outside desk.new) }
-    ensures said { D.tells → (result ≡ Status.NoMemory → ⊥) → (result ≡ Status.WriteFault → ⊥)
-        → (D.outside desk.new).said ≡ (D.outside desk.old).said ++ line_of result ++ 10 ∷ [] }
+    ensures part { D.tells → (result ≡ Status.WriteFault) ⊎ (result ≡ Status.NoMemory) → OnCommand words.now (HoldsPart (D.outside desk.old) (D.outside desk.new)) }
+    ensures others { D.tells → OnCommand words.now (OnlyOutChanges (D.outside desk.old) (D.outside desk.new)) }
+    ensures no_command { D.tells → (at : ℕ) → plain (texts words.now) ≡ Err at → SameFiles (D.outside desk.old) (D.outside desk.new) }
+    ensures said { D.tells → SaysLine result → (D.outside desk.new).said ≡ (D.outside desk.old).said ++ line_of result ++ 10 ∷ [] }
     ensures silent { D.tells → (result ≡ Status.NoMemory) ⊎ (result ≡ Status.WriteFault) → (D.outside desk.new).said ≡ (D.outside desk.old).said }
 
     // That each answer comes where it is due, but for want of memory.
     ensures due_usage { (at : ℕ) → plain (texts words.now) ≡ Err at
         → (result ≡ Status.Usage at) ⊎ ((result ≡ Status.NoMemory) ⊎ (result ≡ Status.WriteFault)) }
-    ensures complete { D.tells → (files : Files) (p : Network) → IsUndisturbed words.now files (D.outside desk.old) (D.outside desk.new)
-        → HoldsProblem files.problem (D.outside desk.old) p
-        → (result ≡ Status.Accepted) ⊎ ((result ≡ Status.Rejected) ⊎ ((result ≡ Status.Unfinished) ⊎ (result ≡ Status.NoMemory))) }
-    ensures due_unfinished { D.tells → (files : Files) → IsUndisturbed words.now files (D.outside desk.old) (D.outside desk.new)
-        → LeavesOpen files (D.outside desk.old) → (result ≡ Status.Unfinished) ⊎ (result ≡ Status.NoMemory) }
-    ensures due_unread { D.tells → (files : Files) → IsUndisturbed words.now files (D.outside desk.old) (D.outside desk.new)
-        → HoldsNone files.problem (D.outside desk.old) → (result ≡ Status.Unread) ⊎ (result ≡ Status.NoMemory) }
-    ensures due_too_long { D.tells → (files : Files) → IsUndisturbed words.now files (D.outside desk.old) (D.outside desk.new)
-        → LongerThan limit files.problem (D.outside desk.old) → (result ≡ Status.TooLong InputFile.Flat) ⊎ (result ≡ Status.NoMemory) }
+    ensures complete { D.tells → (c : Plain) → IsUndisturbed words.now (D.outside desk.old) (D.outside desk.new) c
+        → FilesStand (D.outside desk.old) c → IsDone result c ⊎ (result ≡ Status.NoMemory) }
+    ensures due_unfinished { D.tells → (c : Plain) → IsUndisturbed words.now (D.outside desk.old) (D.outside desk.new) c
+        → LeavesOpen (D.outside desk.old) c → (result ≡ Status.Unfinished) ⊎ (result ≡ Status.NoMemory) }
+    ensures due_kept { D.tells → (c : Plain) → IsUndisturbed words.now (D.outside desk.old) (D.outside desk.new) c
+        → IsKept (D.outside desk.old) c → (result ≡ Status.Kept) ⊎ (result ≡ Status.NoMemory) }
+    ensures due_broken { D.tells → (c : Plain) → IsUndisturbed words.now (D.outside desk.old) (D.outside desk.new) c
+        → IsNotKept (D.outside desk.old) c → IsBroken result ⊎ (result ≡ Status.NoMemory) }
+    ensures due_bad_input { D.tells → (c : Plain) (file : InputFile) (fault : InputFault) → IsUndisturbed words.now (D.outside desk.old) (D.outside desk.new) c
+        → FirstOffence (D.outside desk.old) file fault c → (result ≡ Status.BadInput file fault) ⊎ (result ≡ Status.NoMemory) }
+    ensures due_too_long { D.tells → (c : Plain) (file : InputFile) → IsUndisturbed words.now (D.outside desk.old) (D.outside desk.new) c
+        → IsTooLong (D.outside desk.old) file c → (result ≡ Status.TooLong file) ⊎ (result ≡ Status.NoMemory) }
 {
     match read_words(words) {
-        Ok(files) => {
-            let status = solve_flat(alloc, desk, files.problem, files.out);
+        Ok(command) => {
+            let status = execute(alloc, desk, command);
             conclude(alloc, desk, status)
         }
         Err(at) => conclude(alloc, desk, Status::Usage { at }),

@@ -3,8 +3,10 @@
 
 mod answer;
 mod command;
+mod files;
 mod lines;
 mod opening;
+mod replay;
 mod solve;
 mod status;
 mod undisturbed;
@@ -12,8 +14,9 @@ mod words;
 mod zero;
 
 pub use command::run;
-pub use status::{InputFile, Status};
 pub use undisturbed::run_undisturbed;
 
 #[cfg(test)]
 mod tests;
+
+pub use status::{InputFault, InputFile, Status};

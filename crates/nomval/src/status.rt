@@ -2,15 +2,28 @@
 ghost use Rattle.std.specs.Prelude.{◌≡◌};
 ghost use Rattle.nomval.specs.Exits.{exit_of};
 
+use flat_text::FlatFault;
+use gas_model::Name;
+use setting_text::SettingFault;
+
 /// An input file of a command.
 #[derive(Clone, Copy, Debug, PartialEq, Eq)]
 pub enum InputFile {
     /// The flat problem.
     Flat,
+    /// The setting.
+    SettingFile,
+}
+
+/// Why an input file stands for nothing. None of these is want of memory.
+#[derive(Debug, Drop)]
+pub enum InputFault {
+    OfFlat(FlatFault),
+    OfSetting(SettingFault),
 }
 
 /// How a command ended.
-#[derive(Clone, Copy, Debug, PartialEq, Eq)]
+#[derive(Debug, Drop)]
 pub enum Status {
     /// OUT holds a setting that carries the nomination within the tolerance.
     Accepted,
@@ -18,10 +31,14 @@ pub enum Status {
     Rejected,
     /// Neither was found. No file was made.
     Unfinished,
+    /// The setting carries the nomination within the tolerance.
+    Kept,
+    /// The setting doesn't. This is the first law that it breaks, and the id of that law's arc or node.
+    Broken { law: element_laws::Broken, id: Name },
     /// The words aren't in plain form: no plain words begin as these do up to the word of this number, from 0.
     Usage { at: u64 },
-    /// The problem file isn't the text of a problem of nodes and pipes.
-    Unread,
+    /// The first input file that stands for nothing, and why.
+    BadInput { file: InputFile, fault: InputFault },
     /// The file is longer than 67,108,864 bytes.
     TooLong { file: InputFile },
     /// An input file could not be read.
@@ -38,11 +55,12 @@ impl Status {
         ensures { result ≡ exit_of self.now }
     {
         match self {
-            Status::Accepted => 0,
+            Status::Accepted | Status::Kept => 0,
             Status::Rejected => 1,
             Status::Unfinished => 2,
+            Status::Broken { .. } => 3,
             Status::Usage { .. } => 64,
-            Status::Unread | Status::TooLong { .. } => 65,
+            Status::BadInput { .. } | Status::TooLong { .. } => 65,
             Status::ReadFault => 66,
             Status::NoMemory => 71,
             Status::WriteFault => 74,

@@ -7,20 +7,23 @@ use std::test::Fail;
 
 const WORDS: [&str; 3] = ["solve-flat", "p", "o"];
 
-// One file `p` of these bytes.
-fn one_file(alloc: Global, bytes: Bytes) -> Result<List<(Name, Bytes)>, NoMemory> {
-    let mut files = List::new(alloc);
-    files.push((Name::of(alloc, "p")?, bytes))?;
-    Ok(files)
-}
+// Two nodes and a pipe of resistance 1: a flow of 3 from a at 5 Pa leaves 25 - 9 = 16 at b.
+const THREE: &str = "node a 5 5 3 3\nnode b 0 9 -3 -3\npipe p a b -10 10 1 1 1\n";
 
-// A file `p` of these lines between the first line and the last.
-fn problem_file(alloc: Global, lines: &str) -> Result<List<(Name, Bytes)>, NoMemory> {
+// A file of these lines between the first line and the last.
+fn problem_bytes(alloc: Global, lines: &str) -> Result<Bytes, NoMemory> {
     let mut bytes = Bytes::new(alloc);
     bytes.append(b"gasflat 1\n")?;
     bytes.append(lines.as_bytes())?;
     bytes.append(b"end\n")?;
-    one_file(alloc, bytes)
+    Ok(bytes)
+}
+
+// A file `p` of these bytes.
+fn one_file(alloc: Global, bytes: Bytes) -> Result<List<(Name, Bytes)>, NoMemory> {
+    let mut files = List::new(alloc);
+    files.push((Name::of(alloc, "p")?, bytes))?;
+    Ok(files)
 }
 
 // A desk that reads at most 65,536 bytes and writes at most 10 bytes a call, and fails at these calls.
@@ -36,24 +39,43 @@ fn desk_with(
     MemDesk::new(alloc, files, calls, 65_536, 10)
 }
 
+// A desk with the problem of these lines, which fails at these calls.
+fn problem_desk(alloc: Global, lines: &str, fails: &[u64]) -> Result<MemDesk, NoMemory> {
+    desk_with(alloc, one_file(alloc, problem_bytes(alloc, lines)?)?, fails)
+}
+
+// The same with this text in the file `s`.
+fn setting_desk(alloc: Global, lines: &str, setting: &str) -> Result<MemDesk, NoMemory> {
+    let mut files = one_file(alloc, problem_bytes(alloc, lines)?)?;
+    let mut bytes = Bytes::new(alloc);
+    bytes.append(setting.as_bytes())?;
+    files.push((Name::of(alloc, "s")?, bytes))?;
+    desk_with(alloc, files, &[])
+}
+
 // What is in OUT, or a word that says that it isn't there.
 fn out_of(desk: &MemDesk) -> &[u8] {
     desk.file("o").unwrap_or(b"not made".as_slice())
 }
 
-// The file of these lines ends so, with this line said and this in OUT.
+// The exit status of these words over the desk.
+fn exit_of(alloc: Global, words: &[&str], desk: &mut MemDesk) -> u8 {
+    run(alloc, words, desk).exit()
+}
+
+// The problem of these lines ends so, with this line said and this in OUT.
 fn expect(
     rt: &impl Abort,
     alloc: Global,
     lines: &str,
-    status: Status,
+    exit: u8,
     said: &str,
     out: &str,
 ) -> Result<(), NoMemory> {
-    let mut desk = desk_with(alloc, problem_file(alloc, lines)?, &[])?;
-    assert_eq!(rt; run(alloc, &WORDS, &mut desk), status);
-    assert_eq!(rt; desk.said(), said.as_bytes());
-    assert_eq!(rt; out_of(&desk), out.as_bytes());
+    let mut desk = problem_desk(alloc, lines, &[])?;
+    assert_eq!(rt; exit_of(alloc, &WORDS, &mut desk), exit, "{lines}");
+    assert_eq!(rt; desk.said(), said.as_bytes(), "{lines}");
+    assert_eq!(rt; out_of(&desk), out.as_bytes(), "{lines}");
     Ok(())
 }
 
@@ -62,18 +84,13 @@ fn a_problem_at_rest_is_accepted(rt: HostRuntime) -> Result<(), Fail> {
     let alloc = rt.alloc();
     // The middle of 0 to 81 is 40.
     let one = "{\"arcs\":[],\"decisions\":[],\"nodes\":[[\"a\",40]]}\n";
-    expect(
-        &rt,
-        alloc,
-        "node a 0 9 0 0\n",
-        Status::Accepted,
-        "accepted\n",
-        one,
-    )?;
-    let lines = "node a 0 9 0 0\nnode b 0 9 0 0\npipe p a b -10 10 1 1 1\n";
+    expect(&rt, alloc, "node a 0 9 0 0\n", 0, "accepted\n", one)?;
+    // The first decision shuts the valve; a station without a decision is active.
+    let lines =
+        "node a 0 9 0 0\nnode b 0 9 0 0\nvalve v a b -10 10\nstation c a b 0 10 0 100000000 3 2 9\ngroup g\ndecision d\nset v closed\ndecision e\nset v open\n";
     let two =
-        "{\"arcs\":[[\"p\",\"open\",0]],\"decisions\":[],\"nodes\":[[\"a\",40],[\"b\",40]]}\n";
-    expect(&rt, alloc, lines, Status::Accepted, "accepted\n", two)?;
+        "{\"arcs\":[[\"v\",\"closed\",0],[\"c\",\"active\",0]],\"decisions\":[[\"g\",\"d\"]],\"nodes\":[[\"a\",40],[\"b\",40]]}\n";
+    expect(&rt, alloc, lines, 0, "accepted\n", two)?;
     Ok(())
 }
 
@@ -82,67 +99,249 @@ fn bounds_that_leave_nothing_are_rejected(rt: HostRuntime) -> Result<(), Fail> {
     let alloc = rt.alloc();
     // From 36 to 25 there is no square.
     let square = "gastree 1\nclose empty s0\nend\n";
-    expect(
-        &rt,
-        alloc,
-        "node a 6 5 0 0\n",
-        Status::Rejected,
-        "rejected\n",
-        square,
-    )?;
+    expect(&rt, alloc, "node a 6 5 0 0\n", 1, "rejected\n", square)?;
     // A flow without a value comes before a square without one.
     let lines = "node a 6 5 0 0\nnode b 0 9 0 0\npipe p a b 1 -1 1 1 1\n";
     let flow = "gastree 1\nclose empty q0\nend\n";
-    expect(&rt, alloc, lines, Status::Rejected, "rejected\n", flow)?;
+    expect(&rt, alloc, lines, 1, "rejected\n", flow)?;
+    // A flow of 3 would carry this one, and no flow doesn't.
+    expect(&rt, alloc, THREE, 2, "unfinished\n", "not made")?;
+    Ok(())
+}
+
+// Each offence of a flat problem is said, and no file is made.
+#[test]
+fn the_first_offence_of_a_problem_is_said(rt: HostRuntime) -> Result<(), Fail> {
+    let alloc = rt.alloc();
+    for (lines, said) in [
+        ("node a 0 9 0\n", "bad problem line 2\n"),
+        (
+            "node a 0 100000001 0 0\n",
+            "bad problem over limit line 2\n",
+        ),
+        (
+            "node a 0 9 0 0\nnode a 0 9 0 0\n",
+            "bad problem twice named a\n",
+        ),
+        (
+            "node a 0 9 0 0\nvalve v a b 0 1\n",
+            "bad problem no such node b\n",
+        ),
+        (
+            "node a 0 9 0 0\nvalve v a a 0 1\n",
+            "bad problem same ends v\n",
+        ),
+        ("group g\n", "bad problem empty group g\n"),
+        (
+            "group g\ndecision d\nset v open\n",
+            "bad problem no such arc v\n",
+        ),
+        (
+            "node a 0 9 0 0\nnode b 0 9 0 0\nshort v a b 0 1\ngroup g\ndecision d\nset v open\n",
+            "bad problem not active v\n",
+        ),
+        (
+            "node a 0 9 0 0\nnode b 0 9 0 0\nvalve v a b 0 1\ngroup g\ndecision d\nset v open\nset v closed\n",
+            "bad problem twice decided v\n",
+        ),
+    ] {
+        expect(&rt, alloc, lines, 65, said, "not made")?;
+    }
+    Ok(())
+}
+
+// 257 groups are one too many, which comes before their equal ids.
+#[test]
+fn too_many_groups_come_first(rt: HostRuntime) -> Result<(), Fail> {
+    let alloc = rt.alloc();
+    let mut lines = Name::new(alloc);
+    for _ in 0..257 {
+        lines.push_text("group g\ndecision d\n")?;
+    }
+    expect(
+        &rt,
+        alloc,
+        lines.as_str(),
+        65,
+        "bad problem too many groups\n",
+        "not made",
+    )?;
+    Ok(())
+}
+
+// The setting ends so on the problem of these lines, with this tolerance and this line said.
+fn expect_replay(
+    rt: &impl Abort,
+    alloc: Global,
+    lines: &str,
+    setting: &str,
+    tol: &str,
+    exit: u8,
+    said: &str,
+) -> Result<(), NoMemory> {
+    let mut desk = setting_desk(alloc, lines, setting)?;
+    let words = ["replay-flat", "p", "s", "--tol", tol];
+    assert_eq!(rt; exit_of(alloc, &words, &mut desk), exit, "{setting}");
+    assert_eq!(rt; desk.said(), said.as_bytes(), "{setting}");
     Ok(())
 }
 
 #[test]
-fn other_problems_and_texts_make_no_file(rt: HostRuntime) -> Result<(), Fail> {
+fn a_setting_is_replayed(rt: HostRuntime) -> Result<(), Fail> {
     let alloc = rt.alloc();
-    // A flow of 3 would carry it, and no flow doesn't.
-    let lines = "node a 5 5 3 3\nnode b 0 9 -3 -3\npipe p a b -10 10 1 1 1\n";
-    expect(
-        &rt,
-        alloc,
-        lines,
-        Status::Unfinished,
-        "unfinished\n",
-        "not made",
-    )?;
-    let lines =
-        "node a 0 9 3 3\nnode b 0 9 -3 -3\nvalve v a b -10 10\ngroup g\ndecision d\nset v closed\n";
-    expect(&rt, alloc, lines, Status::Unread, "unread\n", "not made")?;
+    for (setting, exit, said) in [
+        (
+            "{\"arcs\":[[\"p\",\"open\",3]],\"decisions\":[],\"nodes\":[[\"a\",25],[\"b\",16]]}",
+            0,
+            "kept\n",
+        ),
+        // 4 l/h aren't what a brings in, which comes before the drop.
+        (
+            "{\"arcs\":[[\"p\",\"open\",4]],\"decisions\":[],\"nodes\":[[\"a\",25],[\"b\",16]]}",
+            3,
+            "broken balance a\n",
+        ),
+        // The squares drop by 8 in place of 9.
+        (
+            "{\"arcs\":[[\"p\",\"open\",3]],\"decisions\":[],\"nodes\":[[\"a\",25],[\"b\",17]]}",
+            3,
+            "broken law p\n",
+        ),
+        (
+            "{\"arcs\":[[\"p\",\"open\",11]],\"decisions\":[],\"nodes\":[[\"a\",25],[\"b\",16]]}",
+            3,
+            "broken flow p\n",
+        ),
+        (
+            "{\"arcs\":[[\"p\",\"open\",3]],\"decisions\":[],\"nodes\":[[\"a\",24],[\"b\",16]]}",
+            3,
+            "broken pressure a\n",
+        ),
+        (
+            "{\"arcs\":[[\"p\",\"open\",10000000000000]],\"decisions\":[],\"nodes\":[[\"a\",25],[\"b\",16]]}",
+            65,
+            "bad setting wide number arcs\n",
+        ),
+        (
+            "{\"arcs\":[[\"p\",\"closed\",3]],\"decisions\":[],\"nodes\":[[\"a\",25],[\"b\",16]]}",
+            65,
+            "bad setting not setting arcs\n",
+        ),
+        ("[", 65, "bad setting not json\n"),
+    ] {
+        expect_replay(&rt, alloc, THREE, setting, "0", exit, said)?;
+    }
     Ok(())
 }
 
-// The words are refused at this place.
-fn expect_usage(
-    rt: &impl Abort,
-    alloc: Global,
-    words: &[&str],
-    at: u64,
-    said: &str,
-) -> Result<(), NoMemory> {
-    let mut desk = desk_with(alloc, problem_file(alloc, "")?, &[])?;
-    assert_eq!(rt; run(alloc, words, &mut desk), Status::Usage { at });
-    assert_eq!(rt; desk.said(), said.as_bytes());
+// Each kind of arc in a state in which it carries the flow, with numbers worked by hand.
+#[test]
+fn each_kind_of_arc_carries_its_flow(rt: HostRuntime) -> Result<(), Fail> {
+    let alloc = rt.alloc();
+    for (lines, setting, tol) in [
+        // 25 - 9 = 16 lies between 1 * 9 and 2 * 9.
+        (
+            "node a 5 5 3 3\nnode b 3 3 -3 -3\ndrag p a b -10 10 1 2 1\n",
+            "{\"arcs\":[[\"p\",\"open\",3]],\"decisions\":[],\"nodes\":[[\"a\",25],[\"b\",9]]}",
+            "0",
+        ),
+        // The drop of 1 is off by 1 at the flow 0.
+        (
+            "node a 5 5 1 1\nnode b 4 5 -1 -1\npipe p a b -10 10 1 1 1\npipe r a b -10 10 1 1 1\n",
+            "{\"arcs\":[[\"p\",\"open\",1],[\"r\",\"open\",0]],\"decisions\":[],\"nodes\":[[\"a\",25],[\"b\",24]]}",
+            "1",
+        ),
+        (
+            "node a 0 9 3 3\nnode b 0 9 -3 -3\nvalve v a b -10 10\ngroup g\ndecision d\nset v closed\ndecision e\nset v open\n",
+            "{\"arcs\":[[\"v\",\"open\",3]],\"decisions\":[[\"g\",\"e\"]],\"nodes\":[[\"a\",40],[\"b\",40]]}",
+            "0",
+        ),
+        // 4 * 36 is 9 * 16.
+        (
+            "node a 4 4 1 1\nnode b 6 6 -1 -1\nstation c a b 0 10 0 100000000 3 2 100000000\n",
+            "{\"arcs\":[[\"c\",\"active\",1]],\"decisions\":[],\"nodes\":[[\"a\",16],[\"b\",36]]}",
+            "0",
+        ),
+        // 36 - 16 - 4 = 16, and 16^2 is 4 * 4 * 16.
+        (
+            "node a 4 4 1 1\nnode b 6 6 -1 -1\nstation c a b 0 10 0 100000000 1048576 1 2\n",
+            "{\"arcs\":[[\"c\",\"active\",1]],\"decisions\":[],\"nodes\":[[\"a\",16],[\"b\",36]]}",
+            "0",
+        ),
+        (
+            "node a 5 5 0 0\nnode b 0 9 0 0\nloss r a b -10 10 2 2\n",
+            "{\"arcs\":[[\"r\",\"open\",0]],\"decisions\":[],\"nodes\":[[\"a\",25],[\"b\",25]]}",
+            "0",
+        ),
+        // From 5 Pa a loss of 2 Pa leaves 3 Pa.
+        (
+            "node a 5 5 1 1\nnode b 0 9 -1 -1\nloss r a b -10 10 2 2\n",
+            "{\"arcs\":[[\"r\",\"open\",1]],\"decisions\":[],\"nodes\":[[\"a\",25],[\"b\",9]]}",
+            "0",
+        ),
+        // A control valve that takes 2 to 3 Pa leaves 3 of 5 Pa, and a short pipe nothing.
+        (
+            "node a 5 5 1 1\nnode b 0 9 0 0\nnode c 0 9 -1 -1\ncontrol k a b 0 10 0 100000000 2 3\nshort t b c -10 10\n",
+            "{\"arcs\":[[\"k\",\"active\",1],[\"t\",\"open\",1]],\"decisions\":[],\"nodes\":[[\"a\",25],[\"b\",9],[\"c\",9]]}",
+            "0",
+        ),
+    ] {
+        expect_replay(&rt, alloc, lines, setting, tol, 0, "kept\n")?;
+    }
+    Ok(())
+}
+
+// A station that a group turns on compresses what the pipes before and after it drop, at the default tolerance.
+#[test]
+fn a_small_network_is_replayed(rt: HostRuntime) -> Result<(), Fail> {
+    let alloc = rt.alloc();
+    let lines =
+        "node source_1 4000000 6000000 100000000 100000000\nnode innode_1 3000000 6000000 0 0\nnode innode_2 3000000 8000000 0 0\nnode sink_1 4500000 8000000 -100000000 -100000000\npipe pipe_1 source_1 innode_1 -1000000000 1000000000 390 410 1000000\nstation compressorStation_1 innode_1 innode_2 0 1000000000 3000000 8000000 3 2 3000000\npipe pipe_2 innode_2 sink_1 -1000000000 1000000000 390 410 1000000\ngroup group_1\ndecision on\nset compressorStation_1 active\ndecision off\nset compressorStation_1 closed\n";
+    let setting =
+        "{\"arcs\":[[\"pipe_1\",\"open\",100000000],[\"compressorStation_1\",\"active\",100000000],[\"pipe_2\",\"open\",100000000]],\"decisions\":[[\"group_1\",\"on\"]],\"nodes\":[[\"source_1\",26000000000000],[\"innode_1\",22000000000000],[\"innode_2\",44075000000000],[\"sink_1\",40075000000000]]}";
+    let mut desk = setting_desk(alloc, lines, setting)?;
+    assert_eq!(rt; exit_of(alloc, &["replay-flat", "p", "s"], &mut desk), 0);
+    assert_eq!(rt; desk.said(), b"kept\n".as_slice());
+    // The decision that turns the station off doesn't leave it active.
+    let off =
+        "{\"arcs\":[[\"pipe_1\",\"open\",100000000],[\"compressorStation_1\",\"active\",100000000],[\"pipe_2\",\"open\",100000000]],\"decisions\":[[\"group_1\",\"off\"]],\"nodes\":[[\"source_1\",26000000000000],[\"innode_1\",22000000000000],[\"innode_2\",44075000000000],[\"sink_1\",40075000000000]]}";
+    expect_replay(
+        &rt,
+        alloc,
+        lines,
+        off,
+        "0",
+        3,
+        "broken choice compressorStation_1\n",
+    )?;
     Ok(())
 }
 
 #[test]
 fn other_words_are_refused_where_they_leave_the_form(rt: HostRuntime) -> Result<(), Fail> {
     let alloc = rt.alloc();
-    expect_usage(&rt, alloc, &[], 0, "usage word 0\n")?;
-    expect_usage(&rt, alloc, &["solve-flat", "-p", "o"], 1, "usage word 1\n")?;
-    expect_usage(&rt, alloc, &["solve-flat", "p"], 2, "usage word 2\n")?;
-    expect_usage(
-        &rt,
-        alloc,
-        &["solve-flat", "p", "o", "--tol"],
-        3,
-        "usage word 3\n",
-    )?;
+    let cases: [(&[&str], &str); 9] = [
+        (&[], "usage word 0\n"),
+        (&["solve-flat", "-p", "o"], "usage word 1\n"),
+        (&["solve-flat", "p"], "usage word 2\n"),
+        (&["replay-flat", "p", ""], "usage word 2\n"),
+        (&["solve-flat", "p", "o", "--tol"], "usage word 4\n"),
+        (&["solve-flat", "p", "o", "--tol=0"], "usage word 3\n"),
+        (&["solve-flat", "p", "o", "--tol", "00"], "usage word 4\n"),
+        (
+            &["solve-flat", "p", "o", "--tol", "10000000000000001"],
+            "usage word 4\n",
+        ),
+        (
+            &["replay-flat", "p", "s", "--tol", "0", "s"],
+            "usage word 5\n",
+        ),
+    ];
+    for (words, said) in cases {
+        let mut desk = problem_desk(alloc, "", &[])?;
+        assert_eq!(rt; exit_of(alloc, words, &mut desk), 64);
+        assert_eq!(rt; desk.said(), said.as_bytes());
+    }
     Ok(())
 }
 
@@ -150,10 +349,13 @@ fn other_words_are_refused_where_they_leave_the_form(rt: HostRuntime) -> Result<
 fn a_fault_of_reading_is_said(rt: HostRuntime) -> Result<(), Fail> {
     let alloc = rt.alloc();
     // Call 0 starts to read the problem, and call 1 reads it.
-    let mut desk = desk_with(alloc, problem_file(alloc, "node a 0 9 0 0\n")?, &[1])?;
-    assert_eq!(rt; run(alloc, &WORDS, &mut desk), Status::ReadFault);
+    let mut desk = problem_desk(alloc, "node a 0 9 0 0\n", &[1])?;
+    assert_eq!(rt; exit_of(alloc, &WORDS, &mut desk), 66);
     assert_eq!(rt; desk.said(), b"read fault\n".as_slice());
     assert_eq!(rt; out_of(&desk), b"not made".as_slice());
+    // There is no setting of this name.
+    let mut desk = problem_desk(alloc, THREE, &[])?;
+    assert_eq!(rt; exit_of(alloc, &["replay-flat", "p", "s"], &mut desk), 66);
     Ok(())
 }
 
@@ -161,8 +363,8 @@ fn a_fault_of_reading_is_said(rt: HostRuntime) -> Result<(), Fail> {
 fn a_fault_of_writing_leaves_a_front(rt: HostRuntime) -> Result<(), Fail> {
     let alloc = rt.alloc();
     // Calls 0 to 2 read the problem, call 3 starts OUT, and calls 4 and 5 write to it.
-    let mut desk = desk_with(alloc, problem_file(alloc, "node a 0 9 0 0\n")?, &[5])?;
-    assert_eq!(rt; run(alloc, &WORDS, &mut desk), Status::WriteFault);
+    let mut desk = problem_desk(alloc, "node a 0 9 0 0\n", &[5])?;
+    assert_eq!(rt; exit_of(alloc, &WORDS, &mut desk), 74);
     assert_eq!(rt; desk.said(), b"".as_slice());
     assert_eq!(rt; out_of(&desk), b"{\"arcs\":[]".as_slice());
     Ok(())
@@ -171,8 +373,9 @@ fn a_fault_of_writing_leaves_a_front(rt: HostRuntime) -> Result<(), Fail> {
 #[test]
 fn nothing_fails_on_a_desk_that_never_fails(rt: HostRuntime) -> Result<(), Fail> {
     let alloc = rt.alloc();
-    let mut desk = NeverFails::new(alloc, problem_file(alloc, "node a 0 9 0 0\n")?)?;
-    assert_eq!(rt; run_undisturbed(alloc, &WORDS, &mut desk), Status::Accepted);
+    let bytes = problem_bytes(alloc, "node a 0 9 0 0\n")?;
+    let mut desk = NeverFails::new(alloc, one_file(alloc, bytes)?)?;
+    assert_eq!(rt; run_undisturbed(alloc, &WORDS, &mut desk).exit(), 0);
     Ok(())
 }
 
@@ -186,12 +389,7 @@ fn a_file_past_the_limit_is_too_long(rt: HostRuntime) -> Result<(), Fail> {
     }
     bytes.push(b'x')?;
     let mut desk = desk_with(alloc, one_file(alloc, bytes)?, &[])?;
-    assert_eq!(rt;
-        run(alloc, &WORDS, &mut desk),
-        Status::TooLong {
-            file: InputFile::Flat
-        }
-    );
+    assert_eq!(rt; exit_of(alloc, &WORDS, &mut desk), 65);
     assert_eq!(rt; desk.said(), b"too long problem\n".as_slice());
     assert_eq!(rt; out_of(&desk), b"not made".as_slice());
     Ok(())

@@ -1,12 +1,12 @@
 // The same over a desk on which nothing fails.
-ghost use Rattle.std.specs.Prelude.{◌≡◌, ◌⊎◌, ◌++◌, ◌∷◌, [], ℕ, Err};
+ghost use Rattle.std.specs.Prelude.{◌≡◌, ◌⊎◌, ◌++◌, ◌∷◌, [], ℕ, List, Ok, Err};
 ghost use Rattle.gas_desk.specs.Never.{never_failing};
-ghost use Rattle.gas_desk.specs.Whole.{LongerThan};
-ghost use Rattle.gas_model.specs.Rows.{Network};
-ghost use Rattle.nomval.specs.Answers.{limit, Carries, Refutes, HoldsProblem, HoldsNone, Writes, LeavesOpen, ForFiles, OnlyOutChanges};
+ghost use Rattle.element_laws.specs.declared.broken.Broken.{Broken};
+ghost use Rattle.nomval.specs.Answers.{HasCarried, HasRefuted, LeavesOpen, IsKept, IsNotKept, Breaks, FirstOffence, IsTooLong, OnlyOutChanges, ForCommand, OnCommand, FilesStand, IsDone};
 ghost use Rattle.nomval.specs.Lines.{line_of};
-ghost use Rattle.nomval.specs.Words.{plain, texts};
+ghost use Rattle.nomval.specs.Words.{Plain, plain, texts};
 ghost use Rattle.nomval.specs.declared.status.InputFile.{InputFile};
+ghost use Rattle.nomval.specs.declared.status.InputFault.{InputFault};
 
 use crate::{Status, run};
 use gas_desk::NeverFails;
@@ -16,22 +16,20 @@ use std::alloc::Global;
 pub fn run_undisturbed(alloc: Global, words: &[&str], desk: &mut NeverFails) -> Status
     ensures no_read_fault { result ≡ Status.ReadFault → ⊥ }
     ensures no_write_fault { result ≡ Status.WriteFault → ⊥ }
-    ensures complete { (p : Network) → ForFiles words.now (λ files. HoldsProblem files.problem (never_failing desk.old) p)
-        → (result ≡ Status.Accepted) ⊎ ((result ≡ Status.Rejected) ⊎ ((result ≡ Status.Unfinished) ⊎ (result ≡ Status.NoMemory))) }
+    ensures complete { (c : Plain) → plain (texts words.now) ≡ Ok c → FilesStand (never_failing desk.old) c
+        → IsDone result c ⊎ (result ≡ Status.NoMemory) }
 
     // Each answer says what it says of any desk.
-    ensures accepted { result ≡ Status.Accepted → ForFiles words.now (λ files.
-        Writes Carries files (never_failing desk.old) (never_failing desk.new)) }
-    ensures rejected { result ≡ Status.Rejected → ForFiles words.now (λ files.
-        Writes Refutes files (never_failing desk.old) (never_failing desk.new)) }
-    ensures unfinished { result ≡ Status.Unfinished → ForFiles words.now (λ files.
-        LeavesOpen files (never_failing desk.old)) }
+    ensures accepted { result ≡ Status.Accepted → ForCommand words.now (HasCarried (never_failing desk.old) (never_failing desk.new)) }
+    ensures rejected { result ≡ Status.Rejected → ForCommand words.now (HasRefuted (never_failing desk.old) (never_failing desk.new)) }
+    ensures unfinished { result ≡ Status.Unfinished → ForCommand words.now (LeavesOpen (never_failing desk.old)) }
+    ensures kept { result ≡ Status.Kept → ForCommand words.now (IsKept (never_failing desk.old)) }
+    ensures broken { (law : Broken) (id : List ℕ) → result ≡ Status.Broken law id → ForCommand words.now (Breaks (never_failing desk.old) law id) }
+    ensures not_kept { (law : Broken) (id : List ℕ) → result ≡ Status.Broken law id → ForCommand words.now (IsNotKept (never_failing desk.old)) }
     ensures usage { (at : ℕ) → result ≡ Status.Usage at → plain (texts words.now) ≡ Err at }
-    ensures unread { result ≡ Status.Unread → ForFiles words.now (λ files.
-        HoldsNone files.problem (never_failing desk.old)) }
-    ensures too_long { (file : InputFile) → result ≡ Status.TooLong file → ForFiles words.now (λ files.
-        LongerThan limit files.problem (never_failing desk.old)) }
-    ensures others { OnlyOutChanges words.now (never_failing desk.old) (never_failing desk.new) }
+    ensures bad_input { (file : InputFile) (fault : InputFault) → result ≡ Status.BadInput file fault → ForCommand words.now (FirstOffence (never_failing desk.old) file fault) }
+    ensures too_long { (file : InputFile) → result ≡ Status.TooLong file → ForCommand words.now (IsTooLong (never_failing desk.old) file) }
+    ensures others { OnCommand words.now (OnlyOutChanges (never_failing desk.old) (never_failing desk.new)) }
     ensures said { (result ≡ Status.NoMemory → ⊥)
         → (never_failing desk.new).said ≡ (never_failing desk.old).said ++ line_of result ++ 10 ∷ [] }
 {
