@@ -80,7 +80,7 @@ field_takes (c ∷ bs) w rest e =
 
 -- ---- numbers
 
-digits_visible : (ds : List ℕ) → list_all is_ascii_digit ds ≡ true → IsVisible ds
+pub digits_visible : (ds : List ℕ) → list_all is_ascii_digit ds ≡ true → IsVisible ds
 digits_visible [] e = refl
 digits_visible (d ∷ ds) e =
     let p = and_parts (is_ascii_digit d) (list_all is_ascii_digit ds) e in

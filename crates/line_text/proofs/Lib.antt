@@ -3,3 +3,4 @@ pub mod Numbers
 pub mod Places
 pub mod Cuts
 pub mod Fields
+pub mod LongNumbers

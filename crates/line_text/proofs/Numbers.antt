@@ -23,7 +23,7 @@ tests true false false d h1 h2 h3 = refl
 tests true true c d h1 h2 h3 = absurd cc
 tests false b c d h1 h2 h3 = absurd cc
 
-untests : (a b c d : Bool) → (a && not b && (not c || d)) ≡ true → (a ≡ true) × (b ≡ false) × (c ≡ true → d ≡ true)
+pub untests : (a b c d : Bool) → (a && not b && (not c || d)) ≡ true → (a ≡ true) × (b ≡ false) × (c ≡ true → d ≡ true)
 untests true false true d h = (refl, refl, λ _. h)
 untests true false false d h = (refl, refl, λ e. absurd cc)
 untests true true c d h = absurd cc
@@ -38,7 +38,7 @@ natural_again n small =
     let is : is_numeral ds ≡ true = tests (list_all is_ascii_digit ds) (length ds == 0) (get_or ds 0 0 == 48) (length ds == 1) f.0 (ne_eqb _ _ (λ e. omega (arith, f.1, e))) (λ h. eq-eqb _ _ (f.2 (eqb-true _ _ h))) in
     rw (is, f.3) refl
 
-sized : (b : Bool) (n m : ℕ) → cond b (Some n) None ≡ Some m → (b ≡ true) × (n ≡ m)
+pub sized : (b : Bool) (n m : ℕ) → cond b (Some n) None ≡ Some m → (b ≡ true) × (n ≡ m)
 sized true n m e = (refl, cc)
 sized false n m e = absurd cc
 

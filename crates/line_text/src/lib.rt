@@ -2,10 +2,12 @@
 #![tactic(auto)]
 
 mod lines;
+mod long;
 mod numerals;
 mod words;
 
 pub use lines::cut_line;
+pub use long::{long_at, position_at, put_long};
 pub use numerals::{number_at, put_number, put_position, size_at};
 pub use words::{cut_word, field_at, number_field};
 

@@ -1,0 +1,12 @@
+pub mod Below
+pub mod NodeLists
+pub mod FieldTexts
+pub mod CutTexts
+pub mod LineTexts
+pub mod TextLines
+pub mod Fronts
+pub mod Options
+pub mod Walks
+pub mod OneTree
+pub mod Opens
+pub mod Judged

@@ -1,2 +1,10 @@
 pub mod Tree
 pub mod TreeRules
+pub mod Spelling
+pub mod Fields
+pub mod Nodes
+pub mod Reading
+pub mod Writing
+pub mod Place
+pub mod Texts
+pub mod Laws

@@ -1,0 +1,153 @@
+-- Positions of 32 bits and numbers of 128 bits: what a text reads as, and which text reads as them.
+use Rattle.std.proofs.Common.{◌≡◌, ◌≢◌, ◌<◌, ◌≤◌, ◌^◌, ◌-◌, ◌+◌, ◌&&◌, ◌||◌, inl, inr, ℕ, suc, zero, List, [], ◌∷◌, length, drop, get_or, Bool, true, false, cond, not, Option, Some, None, Result, Ok, Err, ℤ, pos, negsuc, refl, sym, ap, subst, ◌∙◌, arith, nat_lt}
+use Rattle.std.specs.Prelude.{option_map, option_and_then, ◌==◌, FitsSigned, IfSome, int_le}
+use Rattle.std.specs.List.{list_all}
+use Rattle.std.specs.Result.{OkIff, result_ok}
+use Rattle.std.specs.Char.{is_ascii_digit}
+use Rattle.std.specs.Fmt.{decimal, signed_decimal}
+use Rattle.std.specs.Int.{w64, w128, saturate_signed}
+use Rattle.std.specs.Str.Parse.{digits_value, ParsesSigned}
+use Rattle.std.proofs.lemmas.Bool.{eqb-true, eqb-false, ne_eqb, cases_lt}
+use Rattle.std.proofs.lemmas.Bool.Decides.{nat_tests}
+use Rattle.std.proofs.lemmas.Int.{ints}
+use Rattle.std.proofs.lemmas.Str.Parse.{parse_signed_digits, parse_signed_minus}
+use lib.Signed.{mag}
+use Rattle.line_text.specs.Numerals.{is_numeral, natural, minus, integer, number_at}
+use Rattle.line_text.specs.Long.{fits_position, fits_long, fitting, position_at, long_at}
+use Rattle.line_text.proofs.Decimals.{own}
+use Rattle.line_text.proofs.Numbers.{sized, untests, mapped, bound, unsigned, natural_again, natural_takes, integer_again, integer_takes}
+
+-- ---- what fits
+
+pub fits_from : (z : ℤ) → FitsSigned w128 z → fits_long z ≡ true
+fits_from (pos n) h = grind (arith, ints, nat_tests)
+fits_from (negsuc n) h = grind (arith, ints, nat_tests)
+
+pub from_fits : (z : ℤ) → fits_long z ≡ true → FitsSigned w128 z
+from_fits (pos n) h = grind (arith, ints, nat_tests)
+from_fits (negsuc n) h = grind (arith, ints, nat_tests)
+
+pub fitted : {A : Type 0} (fits : A → Bool) (n m : A) → fitting fits n ≡ Some m → (fits n ≡ true) × (n ≡ m)
+fitted fits n m e = by (fits n) refl e
+  where
+    by : (b : Bool) → fits n ≡ b → cond b (Some n) None ≡ Some m → (fits n ≡ true) × (n ≡ m)
+    by true h k = (h, cc)
+    by false h k = absurd cc
+
+not_fits : (z : ℤ) → (FitsSigned w128 z → ⊥) → fits_long z ≡ false
+not_fits z h = by (fits_long z) refl
+  where
+    by : (b : Bool) → fits_long z ≡ b → b ≡ false
+    by true e = absurd (h (from_fits z e))
+    by false e = refl
+
+-- ---- what `parse` reads
+
+-- the digits that a number's text is
+pub digits_from : (ds : List ℕ) (n : ℕ) → natural ds ≡ Some n → (list_all is_ascii_digit ds ≡ true) × (0 < length ds) × (digits_value 10 ds ≡ n)
+digits_from ds n e =
+    let s = sized (is_numeral ds) (digits_value 10 ds) n e in
+    let t = untests (list_all is_ascii_digit ds) (length ds == 0) (get_or ds 0 0 == 48) (length ds == 1) s.0 in
+    let some : length ds ≢ 0 = eqb-false _ _ t.1 in
+    (t.0, omega (arith, some), s.1)
+
+-- an answer that is this number exactly where it fits
+pub fits_or_not : {E : Type 0} (r : Result ℤ E) (Q : Type 0) (z x : ℤ) → OkIff r Q x → x ≡ z → (Q → FitsSigned w128 z) → (FitsSigned w128 z → Q) → result_ok r ≡ fitting fits_long z
+fits_or_not (Ok y) Q z x h e to back = let f = fits_from z (to h.0) in rw f (ap Some (h.1 ∙ e))
+fits_or_not (Err f) Q z x h e to back = let f = not_fits z (λ k. h (back k)) in rw f refl
+
+plain_fits : (n : ℕ) → n < 2 ^ 127 → FitsSigned w128 (pos n)
+plain_fits n h = grind (arith, ints)
+
+fits_plain : (n : ℕ) → FitsSigned w128 (pos n) → n < 2 ^ 127
+fits_plain n h = omega (arith, ints)
+
+minus_fits : (n : ℕ) → suc n ≤ 2 ^ 127 → FitsSigned w128 (negsuc n)
+minus_fits n h = grind (arith, ints)
+
+fits_minus : (n : ℕ) → FitsSigned w128 (negsuc n) → suc n ≤ 2 ^ 127
+fits_minus n h = omega (arith, ints)
+
+parsed_plain : {E : Type 0} (word : List ℕ) (n : ℕ) (r : Result ℤ E) → natural word ≡ Some n → ParsesSigned w128 10 word r → result_ok r ≡ fitting fits_long (pos n)
+parsed_plain word n r e h =
+    let d = digits_from word n e in
+    fits_or_not r ((0 < length word) × (digits_value 10 word < 2 ^ 127)) (pos n) (pos (digits_value 10 word)) (parse_signed_digits own w128 word r h d.0) (ap (λ n. pos n) d.2)
+    (λ q. let lt = q.1 in plain_fits n (omega (arith, d.2, lt))) (λ f. (d.1, omega (arith, d.2, fits_plain n f)))
+
+parsed_minus : {E : Type 0} (ds : List ℕ) (n : ℕ) (z : ℤ) (r : Result ℤ E) → natural ds ≡ Some n → minus n ≡ Some z → ParsesSigned w128 10 (45 ∷ ds) r → result_ok r ≡ fitting fits_long z
+parsed_minus ds zero z r e m h = absurd cc
+parsed_minus ds (suc n) z r e m h =
+    let d = digits_from ds (suc n) e in
+    let same : negsuc n ≡ z = cc in
+    fits_or_not r ((list_all is_ascii_digit ds ≡ true) × (0 < length ds) × (digits_value 10 ds ≤ 2 ^ 127)) (negsuc n) _ (parse_signed_minus own w128 (45 ∷ ds) r h refl) (rw d.2 refl)
+    (λ q. let le = q.2 in minus_fits n (omega (arith, d.2, le))) (λ f. (d.0, d.1, omega (arith, d.2, fits_minus n f)))
+    ∙ ap (fitting fits_long) same
+
+parsed : {E : Type 0} (word : List ℕ) (z : ℤ) (r : Result ℤ E) → integer word ≡ Some z → ParsesSigned w128 10 word r → result_ok r ≡ fitting fits_long z
+parsed [] z r e h = absurd cc
+parsed (c ∷ ds) z r e h = by (c == 45) refl e
+  where
+    by : (b : Bool) → (c == 45) ≡ b → cond b (option_and_then minus (natural ds)) (option_map (λ n. pos n) (natural (c ∷ ds))) ≡ Some z → result_ok r ≡ fitting fits_long z
+    by true t k =
+        let m = bound minus (natural ds) z k in
+        parsed_minus ds m.0 z r m.1 m.2 (subst (λ (d : ℕ). ParsesSigned w128 10 (d ∷ ds) r) (eqb-true c 45 t) h)
+    by false t k =
+        let m = mapped (λ n. pos n) (natural (c ∷ ds)) z k in
+        parsed_plain (c ∷ ds) m.0 r m.1 h ∙ ap (fitting fits_long) m.2
+
+-- a word is of a number's form where `number_at` gives one
+some_integer : (word : List ℕ) (y : ℤ) → number_at word ≡ Some y → (z : ℤ) × (integer word ≡ Some z)
+some_integer word y e = let m = mapped (saturate_signed w64) (integer word) y e in (m.0, m.1)
+
+none_integer : (word : List ℕ) → number_at word ≡ None → integer word ≡ None
+none_integer word e = by (integer word) e
+  where
+    by : (o : Option ℤ) → option_map (saturate_signed w64) o ≡ None → o ≡ None
+    by None k = refl
+    by (Some z) k = absurd cc
+
+pub long_read : {E : Type 0} (word : List ℕ) (y : ℤ) (r : Result ℤ E) → number_at word ≡ Some y → ParsesSigned w128 10 word r → Some (result_ok r) ≡ long_at word
+long_read word y r e h = let z = some_integer word y e in ap Some (parsed word z.0 r z.1 h) ∙ ap (option_map (fitting fits_long)) (sym z.1)
+
+pub long_gone : (word : List ℕ) → number_at word ≡ None → None ≡ long_at word
+long_gone word e = ap (option_map (fitting fits_long)) (sym (none_integer word e))
+
+-- ---- what reading answers, as laws
+
+size_of_fit : (z : ℤ) → FitsSigned w128 z → mag z + 1 < 10 ^ 64
+size_of_fit (pos n) fits = omega (arith, ints)
+size_of_fit (negsuc n) fits = omega (arith, ints)
+
+pub long_again : (z : ℤ) → FitsSigned w128 z → long_at (signed_decimal z) ≡ Some (Some z)
+long_again z fits = ap (option_map (fitting fits_long)) (integer_again z (size_of_fit z fits)) ∙ (let f = fits_from z fits in rw f refl)
+
+pub long_takes : (word : List ℕ) (z : ℤ) → long_at word ≡ Some (Some z) → (word ≡ signed_decimal z) × FitsSigned w128 z
+long_takes word z e =
+    let m = mapped (fitting fits_long) (integer word) (Some z) e in
+    let f = fitted fits_long m.0 z m.2 in
+    let fits = from_fits m.0 f.0 in
+    (integer_takes word m.0 m.1 (size_of_fit m.0 fits) ∙ ap signed_decimal f.1, subst (FitsSigned w128) f.1 fits)
+
+pub long_spelled : (word : List ℕ) (r : Option (Option ℤ)) → r ≡ long_at word → (z : ℤ) → FitsSigned w128 z → word ≡ signed_decimal z → r ≡ Some (Some z)
+long_spelled word r exact z fits e = exact ∙ ap long_at e ∙ long_again z fits
+
+pub long_was : (word : List ℕ) (r : Option (Option ℤ)) → r ≡ long_at word → IfSome r (λ o. IfSome o (λ z. word ≡ signed_decimal z))
+long_was word None exact = tt
+long_was word (Some None) exact = tt
+long_was word (Some (Some z)) exact = (long_takes word z (sym exact)).0
+
+-- ---- positions
+
+pub position_again : (n : ℕ) → n < 2 ^ 32 → position_at (decimal n) ≡ Some (Some n)
+position_again n small =
+    let fits : fits_position n ≡ true = grind (arith, nat_tests) in
+    ap (option_map (fitting fits_position)) (natural_again n (omega (arith, small))) ∙ rw fits refl
+
+pub position_takes : (word : List ℕ) (n : ℕ) → position_at word ≡ Some (Some n) → (word ≡ decimal n) × (n < 2 ^ 32)
+position_takes word n e =
+    let m = mapped (fitting fits_position) (natural word) (Some n) e in
+    let f = fitted fits_position m.0 n m.2 in
+    let same = f.1 in
+    let fits = f.0 in
+    let small : n < 2 ^ 32 = grind (arith, nat_tests) in
+    (natural_takes word m.0 m.1 (omega (arith, same, small)) ∙ ap decimal same, small)

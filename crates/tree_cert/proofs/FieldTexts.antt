@@ -1,0 +1,305 @@
+-- A field is read as what its text says, and its text says what it is read as.
+use Rattle.std.proofs.Common.{◌≡◌, ◌<◌, ◌≤◌, ◌^◌, ◌+◌, ◌⊎◌, inl, inr, ℕ, suc, List, [], ◌∷◌, ◌++◌, length, Bool, true, false, cond, ◌&&◌, not, Option, Some, None, Result, Ok, Err, ℤ, pos, negsuc, refl, sym, ap, subst, ◌∙◌, arith, rules}
+use Rattle.std.specs.Prelude.{◌==◌, option_map, nat_le, nat_lt, FitsSigned, codes}
+use Rattle.std.specs.Fmt.{decimal, signed_decimal}
+use Rattle.std.specs.Int.{w128}
+use Rattle.std.specs.List.{find, list_all, flat_map}
+use Rattle.std.specs.Str.{bytes_eq, is_utf8, IsAscii}
+use Rattle.std.proofs.lemmas.Bool.{eqb-true, ltb-true, lt-ltb, and_parts}
+use Rattle.std.proofs.lemmas.Bool.Decides.{nat_tests}
+use Rattle.std.proofs.lemmas.Fmt.{IsAscii-from_digits}
+use Rattle.std.proofs.lemmas.Int.{ints}
+use Rattle.std.proofs.lemmas.Slice.Eq.{bytes_eq-Decides}
+use Rattle.std.proofs.lemmas.Str.{IsUtf8-from_ascii, is_utf8-from_IsUtf8}
+use Rattle.std.proofs.lemmas.Str.Ascii.{IsAscii-nil, IsAscii-cons}
+use Rattle.gas_model.specs.declared.rows.ArcState.{ArcState}
+use Rattle.gas_model.specs.declared.rows.ArcState.TheVariants.{Opened, Shut, Active, Bypass}
+use Rattle.gas_model.specs.declared.rows.Var.{Var}
+use Rattle.gas_model.specs.declared.rows.Var.TheVariants.{Flow, Square}
+use Rattle.line_text.specs.Words.{word_len, field_at}
+use Rattle.line_text.specs.Long.{fits_position, fits_long, position_at, long_at}
+use Rattle.line_text.proofs.Decimals.{own, decimal_form}
+use Rattle.line_text.proofs.Fields.{IsVisible, digits_visible, field_again, field_takes}
+use Rattle.line_text.proofs.LongNumbers.{fits_from, from_fits, long_again, long_takes, position_again, position_takes}
+use Rattle.tree_cert.specs.declared.line.Rule.{Rule}
+use Rattle.tree_cert.specs.declared.line.Rule.TheVariants as rules
+use Rattle.tree_cert.specs.declared.fault.LineFault.{LineFault}
+use Rattle.tree_cert.specs.declared.fault.LineFault.TheVariants as fault
+use Rattle.tree_cert.specs.Spelling.{var_text, rule_text, state_text, end_text, fits_var}
+use Rattle.tree_cert.specs.Fields.{◌>>=◌, found, text_field, ended, position_field, number_field, var_at, var_field, all_rules, rule_at, rule_field, state_at, state_field, end_at, end_field}
+
+-- the words, each after one space
+abbrev pub spaced : List (List ℕ) → List ℕ
+spaced words = flat_map (λ field. 32 ∷ field) words
+
+pub spaced_start : (words : List (List ℕ)) → word_len (spaced words) ≡ 0
+spaced_start [] = refl
+spaced_start (w ∷ words) = refl
+
+-- a text that can be a field
+pub record IsWord (w : List ℕ) : Type 0 where
+  pub visible : IsVisible w
+  pub some : 0 < length w
+  pub text : is_utf8 w ≡ true
+
+-- ---- words of letters
+
+letters_ascii : (w : List ℕ) → list_all (λ b. nat_lt b 128) w ≡ true → IsAscii w
+letters_ascii [] e = IsAscii-nil
+letters_ascii (b ∷ w) e =
+    let p = and_parts (nat_lt b 128) (list_all (λ b. nat_lt b 128) w) e in
+    IsAscii-cons b w (ltb-true b 128 p.0) (letters_ascii w p.1)
+
+pub fixed_word : (w : List ℕ) → list_all (λ b. nat_lt b 128) w ≡ true → IsVisible w → 0 < length w → IsWord w
+fixed_word w e visible some = record { visible = visible; some = some; text = is_utf8-from_IsUtf8 w (IsUtf8-from_ascii w (letters_ascii w e)) }
+
+-- ---- words of numbers
+
+decimal_ascii : (n : ℕ) → n < 10 ^ 64 → IsAscii (decimal n)
+decimal_ascii n small = IsAscii-from_digits (decimal n) (own.to (decimal n) (decimal_form n small).0)
+
+decimal_word : (n : ℕ) → n < 10 ^ 64 → IsWord (decimal n)
+decimal_word n small =
+    let f = decimal_form n small in
+    record { visible = digits_visible (decimal n) f.0; some = f.1; text = is_utf8-from_IsUtf8 _ (IsUtf8-from_ascii _ (decimal_ascii n small)) }
+
+-- the same after a letter
+lettered_word : (c n : ℕ) → 33 ≤ c → c < 128 → n < 10 ^ 64 → IsWord (c ∷ decimal n)
+lettered_word c n low high small =
+    let f = decimal_form n small in
+    let seen : nat_le 33 c ≡ true = grind (arith, nat_tests) in
+    record {
+      visible = rw seen (digits_visible (decimal n) f.0);
+      some = omega arith;
+      text = is_utf8-from_IsUtf8 _ (IsUtf8-from_ascii _ (IsAscii-cons c (decimal n) high (decimal_ascii n small)));
+    }
+
+pub position_word : (n : ℕ) → n < 2 ^ 32 → IsWord (decimal n)
+position_word n small = decimal_word n (omega (arith, small))
+
+pub long_word : (z : ℤ) → FitsSigned w128 z → IsWord (signed_decimal z)
+long_word (pos n) fits = decimal_word n (omega (arith, ints))
+long_word (negsuc n) fits = lettered_word 45 (suc n) (omega arith) (omega arith) (omega (arith, ints))
+
+pub var_word : (x : Var) → fits_var x ≡ true → IsWord (var_text x)
+var_word (Flow a) fits = let small : a < 2 ^ 32 = grind (arith, nat_tests) in lettered_word 113 a (omega arith) (omega arith) (omega (arith, small))
+var_word (Square n) fits = let small : n < 2 ^ 32 = grind (arith, nat_tests) in lettered_word 115 n (omega arith) (omega arith) (omega (arith, small))
+
+pub rule_is_word : (rule : Rule) → IsWord (rule_text rule)
+rule_is_word rules.Balance = fixed_word (codes "balance") refl refl (omega arith)
+rule_is_word rules.Pipe = fixed_word (codes "pipe") refl refl (omega arith)
+rule_is_word rules.Equal = fixed_word (codes "equal") refl refl (omega arith)
+rule_is_word rules.Zero = fixed_word (codes "zero") refl refl (omega arith)
+rule_is_word rules.Way = fixed_word (codes "way") refl refl (omega arith)
+rule_is_word rules.Inner = fixed_word (codes "inner") refl refl (omega arith)
+rule_is_word rules.Fall = fixed_word (codes "fall") refl refl (omega arith)
+rule_is_word rules.Order = fixed_word (codes "order") refl refl (omega arith)
+rule_is_word rules.Rise = fixed_word (codes "rise") refl refl (omega arith)
+rule_is_word rules.Ratio = fixed_word (codes "ratio") refl refl (omega arith)
+rule_is_word rules.Sign = fixed_word (codes "sign") refl refl (omega arith)
+rule_is_word rules.Reach = fixed_word (codes "reach") refl refl (omega arith)
+rule_is_word rules.Along = fixed_word (codes "along") refl refl (omega arith)
+rule_is_word rules.Drop = fixed_word (codes "drop") refl refl (omega arith)
+
+pub state_is_word : (state : ArcState) → IsWord (state_text state)
+state_is_word Opened = fixed_word (codes "open") refl refl (omega arith)
+state_is_word Shut = fixed_word (codes "closed") refl refl (omega arith)
+state_is_word Active = fixed_word (codes "active") refl refl (omega arith)
+state_is_word Bypass = fixed_word (codes "bypass") refl refl (omega arith)
+
+pub end_is_word : (low : Bool) → IsWord (end_text low)
+end_is_word true = fixed_word (codes "lo") refl refl (omega arith)
+end_is_word false = fixed_word (codes "hi") refl refl (omega arith)
+
+-- ---- fields of any kind
+
+pub bound_ok : {A B : Type 0} (r : Result A LineFault) (f : A → Result B LineFault) (y : B) → (r >>= f) ≡ Ok y → (x : A) × (r ≡ Ok x) × (f x ≡ Ok y)
+bound_ok (Ok x) f y e = (x, refl, e)
+bound_ok (Err d) f y e = absurd cc
+
+pub found_ok : {A : Type 0} (o : Option A) (x : A) → found o ≡ Ok x → o ≡ Some x
+found_ok None x e = absurd cc
+found_ok (Some y) x e = cc
+
+module _ {A : Type 0} (at : List ℕ → Option A) where
+  abbrev pub with_rest : List ℕ → A → Result (A × List ℕ) LineFault
+  with_rest rest x = Ok (x, rest)
+
+  -- a field that is read by its word
+  abbrev pub field_by : List ℕ → Result (A × List ℕ) LineFault
+  field_by bytes = text_field bytes >>= λ word. found (at word.0) >>= with_rest word.1
+
+  pub by_again : (w rest : List ℕ) (x : A) → IsWord w → at w ≡ Some x → word_len rest ≡ 0 → field_by (32 ∷ (w ++ rest)) ≡ Ok (x, rest)
+  by_again w rest x is e h = rw (field_again w rest is.visible is.some is.text h, e) refl
+
+  pub by_takes : (bytes : List ℕ) (x : A) (rest : List ℕ) → field_by bytes ≡ Ok (x, rest) → (w : List ℕ) × (at w ≡ Some x) × (bytes ≡ 32 ∷ (w ++ rest))
+  by_takes bytes x rest e =
+      let f = bound_ok (text_field bytes) (λ word. found (at word.0) >>= with_rest word.1) (x, rest) e in
+      let n = bound_ok (found (at f.0.0)) (with_rest f.0.1) (x, rest) f.2 in
+      let same : (n.0, f.0.1) ≡ (x, rest) = let h = n.2 in cc in
+      let value : n.0 ≡ x = ap (λ (p : A × List ℕ). p.0) same in
+      let behind : f.0.1 ≡ rest = ap (λ (p : A × List ℕ). p.1) same in
+      (f.0.0, found_ok (at f.0.0) n.0 n.1 ∙ ap Some value, field_takes bytes f.0.0 f.0.1 (found_ok (field_at bytes) f.0 f.1) ∙ ap (λ (r : List ℕ). 32 ∷ (f.0.0 ++ r)) behind)
+
+-- ---- fields of each kind
+
+pub position_field_again : (n : ℕ) (rest : List ℕ) → n < 2 ^ 32 → word_len rest ≡ 0 → position_field (32 ∷ (decimal n ++ rest)) ≡ Ok (Some n, rest)
+unfolding position_field
+position_field_again n rest small h = by_again position_at (decimal n) rest (Some n) (position_word n small) (position_again n small) h
+
+pub position_field_takes : (bytes : List ℕ) (n : ℕ) (rest : List ℕ) → position_field bytes ≡ Ok (Some n, rest) → (bytes ≡ 32 ∷ (decimal n ++ rest)) × (n < 2 ^ 32)
+unfolding position_field
+position_field_takes bytes n rest e =
+    let t = by_takes position_at bytes (Some n) rest e in
+    let p = position_takes t.0 n t.1 in
+    (t.2 ∙ ap (λ (w : List ℕ). 32 ∷ (w ++ rest)) p.0, p.1)
+
+pub number_field_again : (z : ℤ) (rest : List ℕ) → FitsSigned w128 z → word_len rest ≡ 0 → number_field (32 ∷ (signed_decimal z ++ rest)) ≡ Ok (Some z, rest)
+unfolding number_field
+number_field_again z rest fits h = by_again long_at (signed_decimal z) rest (Some z) (long_word z fits) (long_again z fits) h
+
+pub number_field_takes : (bytes : List ℕ) (z : ℤ) (rest : List ℕ) → number_field bytes ≡ Ok (Some z, rest) → (bytes ≡ 32 ∷ (signed_decimal z ++ rest)) × FitsSigned w128 z
+unfolding number_field
+number_field_takes bytes z rest e =
+    let t = by_takes long_at bytes (Some z) rest e in
+    let p = long_takes t.0 z t.1 in
+    (t.2 ∙ ap (λ (w : List ℕ). 32 ∷ (w ++ rest)) p.0, p.1)
+
+fits_small : (n : ℕ) → fits_position n ≡ true → n < 2 ^ 32
+fits_small n e = ltb-true n (2 ^ 32) e
+
+pub small_fits : (n : ℕ) → n < 2 ^ 32 → fits_position n ≡ true
+small_fits n lt = lt-ltb n (2 ^ 32) lt
+
+var_again : (x : Var) → fits_var x ≡ true → var_at (var_text x) ≡ Some (Some x)
+var_again (Flow a) fits = let again = position_again a (fits_small a fits) in rw again refl
+var_again (Square n) fits = let again = position_again n (fits_small n fits) in rw again refl
+
+-- what a letter and a position name
+named : (make : ℕ → Var) (digits : List ℕ) (x : Var) → option_map (option_map make) (position_at digits) ≡ Some (Some x) → (n : ℕ) × (position_at digits ≡ Some (Some n)) × (make n ≡ x)
+named make digits x e = by (position_at digits) refl e
+  where
+    by : (o : Option (Option ℕ)) → position_at digits ≡ o → option_map (option_map make) o ≡ Some (Some x) → (n : ℕ) × (position_at digits ≡ Some (Some n)) × (make n ≡ x)
+    by None h k = absurd cc
+    by (Some None) h k = absurd cc
+    by (Some (Some n)) h k = (n, h, cc)
+
+var_takes : (w : List ℕ) (x : Var) → var_at w ≡ Some (Some x) → (w ≡ var_text x) × (fits_var x ≡ true)
+var_takes [] x e = absurd cc
+var_takes (c ∷ digits) x e = by (c == 113) (c == 115) refl refl e
+  where
+    flow : (n : ℕ) → c ≡ 113 → position_at digits ≡ Some (Some n) → Flow n ≡ x → (c ∷ digits ≡ var_text x) × (fits_var x ≡ true)
+    flow n is e same =
+        let p = position_takes digits n e in
+        (ap (λ (d : ℕ). d ∷ digits) is ∙ ap (λ (d : List ℕ). 113 ∷ d) p.0 ∙ ap var_text same, ap fits_var (sym same) ∙ small_fits n p.1)
+
+    square : (n : ℕ) → c ≡ 115 → position_at digits ≡ Some (Some n) → Square n ≡ x → (c ∷ digits ≡ var_text x) × (fits_var x ≡ true)
+    square n is e same =
+        let p = position_takes digits n e in
+        (ap (λ (d : ℕ). d ∷ digits) is ∙ ap (λ (d : List ℕ). 115 ∷ d) p.0 ∙ ap var_text same, ap fits_var (sym same) ∙ small_fits n p.1)
+
+    by : (a b : Bool) → (c == 113) ≡ a → (c == 115) ≡ b
+        → cond a (option_map (option_map Flow) (position_at digits)) (cond b (option_map (option_map Square) (position_at digits)) None) ≡ Some (Some x)
+        → (c ∷ digits ≡ var_text x) × (fits_var x ≡ true)
+    by true b p q k = let n = named Flow digits x k in flow n.0 (eqb-true c 113 p) n.1 n.2
+    by false true p q k = let n = named Square digits x k in square n.0 (eqb-true c 115 q) n.1 n.2
+    by false false p q k = absurd cc
+
+pub var_field_again : (x : Var) (rest : List ℕ) → fits_var x ≡ true → word_len rest ≡ 0 → var_field (32 ∷ (var_text x ++ rest)) ≡ Ok (Some x, rest)
+unfolding var_field
+var_field_again x rest fits h = by_again var_at (var_text x) rest (Some x) (var_word x fits) (var_again x fits) h
+
+pub var_field_takes : (bytes : List ℕ) (x : Var) (rest : List ℕ) → var_field bytes ≡ Ok (Some x, rest) → (bytes ≡ 32 ∷ (var_text x ++ rest)) × (fits_var x ≡ true)
+unfolding var_field
+var_field_takes bytes x rest e =
+    let t = by_takes var_at bytes (Some x) rest e in
+    let p = var_takes t.0 x t.1 in
+    (t.2 ∙ ap (λ (w : List ℕ). 32 ∷ (w ++ rest)) p.0, p.1)
+
+-- what is found by its text has this text
+pub found_text : {A : Type 0} (text : A → List ℕ) (w : List ℕ) (xs : List A) (x : A) → find (λ y. bytes_eq w (text y)) xs ≡ Some x → w ≡ text x
+found_text text w [] x e = absurd cc
+found_text text w (y ∷ xs) x e = by (found_text text w xs x) (bytes_eq w (text y)) refl e
+  where
+    by : (find (λ y. bytes_eq w (text y)) xs ≡ Some x → w ≡ text x) → (b : Bool) → bytes_eq w (text y) ≡ b → cond b (Some y) (find (λ y. bytes_eq w (text y)) xs) ≡ Some x → w ≡ text x
+    by others true h k = let same : y ≡ x = cc in (bytes_eq-Decides w (text y)).0 h ∙ ap text same
+    by others false h k = others k
+
+pub rule_again : (rule : Rule) → rule_at (rule_text rule) ≡ Some rule
+rule_again rules.Balance = refl
+rule_again rules.Pipe = refl
+rule_again rules.Equal = refl
+rule_again rules.Zero = refl
+rule_again rules.Way = refl
+rule_again rules.Inner = refl
+rule_again rules.Fall = refl
+rule_again rules.Order = refl
+rule_again rules.Rise = refl
+rule_again rules.Ratio = refl
+rule_again rules.Sign = refl
+rule_again rules.Reach = refl
+rule_again rules.Along = refl
+rule_again rules.Drop = refl
+
+pub rule_field_again : (rule : Rule) (rest : List ℕ) → word_len rest ≡ 0 → rule_field (32 ∷ (rule_text rule ++ rest)) ≡ Ok (rule, rest)
+unfolding rule_field
+rule_field_again rule rest h = by_again rule_at (rule_text rule) rest rule (rule_is_word rule) (rule_again rule) h
+
+pub rule_field_takes : (bytes : List ℕ) (rule : Rule) (rest : List ℕ) → rule_field bytes ≡ Ok (rule, rest) → bytes ≡ 32 ∷ (rule_text rule ++ rest)
+unfolding rule_field
+rule_field_takes bytes rule rest e =
+    let t = by_takes rule_at bytes rule rest e in
+    t.2 ∙ ap (λ (w : List ℕ). 32 ∷ (w ++ rest)) (found_text rule_text t.0 all_rules rule t.1)
+
+state_again : (state : ArcState) → state_at (state_text state) ≡ Some state
+state_again Opened = refl
+state_again Shut = refl
+state_again Active = refl
+state_again Bypass = refl
+
+pub state_field_again : (state : ArcState) (rest : List ℕ) → word_len rest ≡ 0 → state_field (32 ∷ (state_text state ++ rest)) ≡ Ok (state, rest)
+unfolding state_field
+state_field_again state rest h = by_again state_at (state_text state) rest state (state_is_word state) (state_again state) h
+
+pub state_field_takes : (bytes : List ℕ) (state : ArcState) (rest : List ℕ) → state_field bytes ≡ Ok (state, rest) → bytes ≡ 32 ∷ (state_text state ++ rest)
+unfolding state_field
+state_field_takes bytes state rest e =
+    let t = by_takes state_at bytes state rest e in
+    t.2 ∙ ap (λ (w : List ℕ). 32 ∷ (w ++ rest)) (found_text state_text t.0 (Opened ∷ Shut ∷ Active ∷ Bypass ∷ []) state t.1)
+
+end_again : (low : Bool) → end_at (end_text low) ≡ Some low
+end_again true = refl
+end_again false = refl
+
+end_takes : (w : List ℕ) (low : Bool) → end_at w ≡ Some low → w ≡ end_text low
+end_takes w low e = by (bytes_eq w (codes "lo")) (bytes_eq w (codes "hi")) refl refl e
+  where
+    by : (a b : Bool) → bytes_eq w (codes "lo") ≡ a → bytes_eq w (codes "hi") ≡ b → cond a (Some true) (cond b (Some false) None) ≡ Some low → w ≡ end_text low
+    by true b p q k = let same : true ≡ low = cc in (bytes_eq-Decides w (codes "lo")).0 p ∙ ap end_text same
+    by false true p q k = let same : false ≡ low = cc in (bytes_eq-Decides w (codes "hi")).0 q ∙ ap end_text same
+    by false false p q k = absurd cc
+
+pub end_field_again : (low : Bool) (rest : List ℕ) → word_len rest ≡ 0 → end_field (32 ∷ (end_text low ++ rest)) ≡ Ok (low, rest)
+unfolding end_field
+end_field_again low rest h = by_again end_at (end_text low) rest low (end_is_word low) (end_again low) h
+
+pub end_field_takes : (bytes : List ℕ) (low : Bool) (rest : List ℕ) → end_field bytes ≡ Ok (low, rest) → bytes ≡ 32 ∷ (end_text low ++ rest)
+unfolding end_field
+end_field_takes bytes low rest e =
+    let t = by_takes end_at bytes low rest e in
+    t.2 ∙ ap (λ (w : List ℕ). 32 ∷ (w ++ rest)) (end_takes t.0 low t.1)
+
+-- a field of text
+pub text_field_again : (w rest : List ℕ) → IsWord w → word_len rest ≡ 0 → text_field (32 ∷ (w ++ rest)) ≡ Ok (w, rest)
+text_field_again w rest is h = ap found (field_again w rest is.visible is.some is.text h)
+
+pub text_field_takes : (bytes w rest : List ℕ) → text_field bytes ≡ Ok (w, rest) → bytes ≡ 32 ∷ (w ++ rest)
+text_field_takes bytes w rest e = field_takes bytes w rest (found_ok (field_at bytes) (w, rest) e)
+
+pub ended_takes : (bytes : List ℕ) (u : Unit {0}) → ended bytes ≡ Ok u → bytes ≡ []
+ended_takes [] u e = refl
+ended_takes (c ∷ bytes) u e = by (length (c ∷ bytes) == 0) refl e
+  where
+    by : (b : Bool) → (length (c ∷ bytes) == 0) ≡ b → cond b (Ok tt) (Err fault.NotLine) ≡ Ok u → c ∷ bytes ≡ []
+    by true h k = absurd (let none : length (c ∷ bytes) ≡ 0 = eqb-true _ _ h in omega (arith, none))
+    by false h k = absurd cc
