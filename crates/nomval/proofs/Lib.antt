@@ -1,6 +1,9 @@
-pub mod NoPoint
+pub mod EmptyTree
 pub mod EmptySquares
 pub mod ZeroFits
 pub mod Held
 pub mod FirstStates
 pub mod Parts
+pub mod Checked
+pub mod Findings
+pub mod RefutedText

@@ -12,16 +12,21 @@ use Rattle.setting_text.specs.declared.fault.Key.{Key}
 use Rattle.setting_text.specs.declared.fault.Key.TheVariants as key
 use Rattle.setting_text.specs.declared.fault.SettingFault.{SettingFault}
 use Rattle.setting_text.specs.declared.fault.SettingFault.TheVariants as setting
+use Rattle.tree_check.specs.declared.verdict.TreeFault.{TreeFault}
+use Rattle.tree_check.specs.declared.verdict.TreeFault.TheVariants as tree
+use Rattle.nomval.specs.declared.status.NotFault.{NotFault}
+use Rattle.nomval.specs.declared.status.NotFault.TheVariants.{Tree, Left}
 use Rattle.nomval.specs.declared.status.Status.{Status}
-use Rattle.nomval.specs.declared.status.Status.TheVariants.{Accepted, Rejected, Unfinished, Kept, Broken, Usage, BadInput, TooLong, ReadFault, NoMemory, WriteFault}
+use Rattle.nomval.specs.declared.status.Status.TheVariants.{Accepted, Rejected, Unfinished, Kept, Broken, Passes, NotRefutation, Usage, BadInput, TooLong, ReadFault, NoMemory, WriteFault}
 use Rattle.nomval.specs.declared.status.InputFile.{InputFile}
-use Rattle.nomval.specs.declared.status.InputFile.TheVariants.{Flat, SettingFile}
+use Rattle.nomval.specs.declared.status.InputFile.TheVariants.{Flat, SettingFile, TreeFile}
 use Rattle.nomval.specs.declared.status.InputFault.{InputFault}
 use Rattle.nomval.specs.declared.status.InputFault.TheVariants.{OfFlat, OfSetting}
 
 abbrev pub file_word : InputFile → List ℕ
 file_word Flat = codes "problem"
 file_word SettingFile = codes "setting"
+file_word TreeFile = codes "tree"
 
 abbrev pub many_word : Many → List ℕ
 many_word many.Nodes = codes "nodes"
@@ -64,6 +69,20 @@ abbrev pub fault_text : InputFault → List ℕ
 fault_text (OfFlat e) = flat_text_fault e
 fault_text (OfSetting e) = setting_text_fault e
 
+-- the first line of a tree that is at fault
+abbrev pub tree_text : TreeFault → List ℕ
+tree_text (tree.NotTree line) = codes "not tree line " ++ decimal line
+tree_text (tree.WideNumber line) = codes "wide number line " ++ decimal line
+tree_text (tree.BadStep line) = codes "bad step line " ++ decimal line
+tree_text (tree.WrongBranch line) = codes "wrong branch line " ++ decimal line
+tree_text (tree.WrongEnd line) = codes "wrong end line " ++ decimal line
+tree_text tree.NoMemory = []
+
+-- why a text is no refutation, and at which line
+abbrev pub not_text : NotFault → List ℕ
+not_text (Left line) = codes "open line " ++ decimal line
+not_text (Tree fault) = tree_text fault
+
 -- which law is broken
 abbrev pub law_word : law.Broken → List ℕ
 law_word (laws.Choice a) = codes "choice "
@@ -79,6 +98,8 @@ line_of Rejected = codes "rejected"
 line_of Unfinished = codes "unfinished"
 line_of Kept = codes "kept"
 line_of (Broken law id) = codes "broken " ++ law_word law ++ id
+line_of Passes = codes "passes"
+line_of (NotRefutation fault) = codes "not refutation " ++ not_text fault
 line_of (Usage at) = codes "usage word " ++ decimal at
 line_of (BadInput file fault) = codes "bad " ++ file_word file ++ codes " " ++ fault_text fault
 line_of (TooLong file) = codes "too long " ++ file_word file

@@ -8,7 +8,7 @@ use Rattle.flat_text.specs.Text.{flat_of}
 use Rattle.setting_text.specs.declared.fault.SettingFault.{SettingFault}
 use Rattle.setting_text.specs.Reading.{setting_of}
 use Rattle.nomval.specs.declared.status.InputFile.{InputFile}
-use Rattle.nomval.specs.declared.status.InputFile.TheVariants.{Flat, SettingFile}
+use Rattle.nomval.specs.declared.status.InputFile.TheVariants.{Flat, SettingFile, TreeFile}
 use Rattle.nomval.specs.declared.status.InputFault.{InputFault}
 use Rattle.nomval.specs.declared.status.InputFault.TheVariants.{OfFlat, OfSetting}
 
@@ -43,6 +43,10 @@ problem_held name before = file_is flat_of (before.files name)
 abbrev pub setting_held : Network → List ℕ → Outside → FileIs Setting SettingFault
 setting_held p name before = file_is (setting_of p) (before.files name)
 
+-- what the file of this name is as a text that may be a tree: any bytes that aren't too many
+abbrev pub tree_held : List ℕ → Outside → FileIs (List ℕ) (Unit {0})
+tree_held name before = file_is Ok (before.files name)
+
 -- the fault of a file that is refused as a flat problem, or as a setting
 abbrev pub IsFlatFault : FileIs Network FlatFault → InputFile → InputFault → Type 0
 IsFlatFault is Flat (OfFlat e) = is ≡ refused e
@@ -64,8 +68,16 @@ IsBadSetting p name before file fault = IsSettingFault (setting_held p name befo
 abbrev pub IsLongProblem : List ℕ → Outside → InputFile → Type 0
 IsLongProblem name before Flat = problem_held name before ≡ too_long
 IsLongProblem name before SettingFile = ⊥
+IsLongProblem name before TreeFile = ⊥
 
 -- the setting's file is too long
 abbrev pub IsLongSetting : Network → List ℕ → Outside → InputFile → Type 0
 IsLongSetting p name before Flat = ⊥
 IsLongSetting p name before SettingFile = setting_held p name before ≡ too_long
+IsLongSetting p name before TreeFile = ⊥
+
+-- the tree's file is too long
+abbrev pub IsLongTree : List ℕ → Outside → InputFile → Type 0
+IsLongTree name before Flat = ⊥
+IsLongTree name before SettingFile = ⊥
+IsLongTree name before TreeFile = tree_held name before ≡ too_long

@@ -1,6 +1,6 @@
 -- The statuses with which reading an input file may end.
 use Rattle.nomval.specs.declared.status.Status.{Status}
-use Rattle.nomval.specs.declared.status.Status.TheVariants.{Accepted, Rejected, Unfinished, Kept, Broken, Usage, BadInput, TooLong, ReadFault, NoMemory, WriteFault}
+use Rattle.nomval.specs.declared.status.Status.TheVariants.{Accepted, Rejected, Unfinished, Kept, Broken, Passes, NotRefutation, Usage, BadInput, TooLong, ReadFault, NoMemory, WriteFault}
 
 -- a file that can't be had: too long, or not read
 abbrev pub IsUnread : Status → Type 0
@@ -27,6 +27,8 @@ IsRefusal status = ⊥
 abbrev pub IsSolving : Status → Type 0
 IsSolving Kept = ⊥
 IsSolving (Broken law id) = ⊥
+IsSolving Passes = ⊥
+IsSolving (NotRefutation fault) = ⊥
 IsSolving (Usage at) = ⊥
 IsSolving status = Unit {0}
 
@@ -35,6 +37,19 @@ abbrev pub IsReplaying : Status → Type 0
 IsReplaying Accepted = ⊥
 IsReplaying Rejected = ⊥
 IsReplaying Unfinished = ⊥
+IsReplaying Passes = ⊥
+IsReplaying (NotRefutation fault) = ⊥
 IsReplaying (Usage at) = ⊥
 IsReplaying WriteFault = ⊥
 IsReplaying status = Unit {0}
+
+-- a status with which `check-flat` may end
+abbrev pub IsChecking : Status → Type 0
+IsChecking Accepted = ⊥
+IsChecking Rejected = ⊥
+IsChecking Unfinished = ⊥
+IsChecking Kept = ⊥
+IsChecking (Broken law id) = ⊥
+IsChecking (Usage at) = ⊥
+IsChecking WriteFault = ⊥
+IsChecking status = Unit {0}

@@ -4,7 +4,7 @@ use Rattle.std.specs.Borrow.{Bor}
 use Rattle.std.specs.Str.{bytes_eq}
 use Rattle.line_text.specs.Numerals.{natural}
 use Rattle.nomval.specs.declared.words.Command.{Command}
-use Rattle.nomval.specs.declared.words.Command.TheVariants.{SolveFlat, ReplayFlat}
+use Rattle.nomval.specs.declared.words.Command.TheVariants.{SolveFlat, ReplayFlat, CheckFlat}
 
 -- the words, as texts
 abbrev pub texts : List (Bor (List ℕ)) → List (List ℕ)
@@ -16,15 +16,19 @@ pub data Plain : Type 0 where
   solve_flat : (problem out : List ℕ) (tol : ℕ) → Plain
   -- `replay-flat PROBLEM SETTING [--tol n]`
   replay_flat : (problem setting : List ℕ) (tol : ℕ) → Plain
+  -- `check-flat PROBLEM TREE`
+  check_flat : (problem tree : List ℕ) → Plain
 
 -- how far a law of the command may be off
 abbrev pub tolerance_of : Plain → ℕ
 tolerance_of (solve_flat problem out tol) = tol
 tolerance_of (replay_flat problem setting tol) = tol
+tolerance_of (check_flat problem tree) = 0
 
 abbrev pub plain_of : Command → Plain
 plain_of (SolveFlat problem out tol) = solve_flat problem.now out.now tol
 plain_of (ReplayFlat problem setting tol) = replay_flat problem.now setting.now tol
+plain_of (CheckFlat problem tree) = check_flat problem.now tree.now
 
 infixl 10 ◌>>=◌
 abbrev pub ◌>>=◌ : {A B : Type 0} → Result A ℕ → (A → Result B ℕ) → Result B ℕ
@@ -72,10 +76,24 @@ two_files make words = do
   tol ← options_at 3 second.1
   Ok (make first.0 second.0 tol)
 
+-- no word comes after those before word n
+abbrev pub no_more : ℕ → List (List ℕ) → Result (Unit {0}) ℕ
+no_more n [] = Ok tt
+no_more n (word ∷ words) = Err n
+
+-- what comes after the command: two files alone
+abbrev pub files_alone : (List ℕ → List ℕ → Plain) → List (List ℕ) → Result Plain ℕ
+files_alone make words = do
+  first ← file_at 1 words
+  second ← file_at 2 first.1
+  end ← no_more 3 second.1
+  Ok (make first.0 second.0)
+
 -- the command that the words are, or the number of the first word up to which no plain words begin so
 abbrev pub plain : List (List ℕ) → Result Plain ℕ
 plain [] = Err 0
 plain (command ∷ words) =
     if bytes_eq command (codes "solve-flat") then two_files solve_flat words
     else if bytes_eq command (codes "replay-flat") then two_files replay_flat words
+    else if bytes_eq command (codes "check-flat") then files_alone check_flat words
     else Err 0

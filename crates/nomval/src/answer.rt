@@ -1,17 +1,20 @@
 // What is found for a problem.
-ghost use Rattle.std.specs.Prelude.{◌≡◌, ◌≤◌, pos, IfOk, IfSome, MatchOption};
+ghost use Rattle.std.specs.Prelude.{◌≡◌, ◌≤◌, ℕ, pos, Some, IfOk, IfSome, MatchOption};
 ghost use Rattle.gas_model.specs.Near.{IsNear};
+ghost use Rattle.gas_model.specs.Within.{IsWithin};
 ghost use Rattle.setting_text.specs.Writing.{setting_text};
 ghost use Rattle.nomval.specs.Answers.{IsAnswer};
+ghost use Rattle.nomval.specs.Opening.{first_empty};
 ghost use Rattle.nomval.specs.Words.{most_tolerance};
 ghost use Rattle.nomval.specs.Zero.{zero_setting};
 
 use crate::opening::{first_empty, write_empty_tree};
 use crate::zero::zero_setting;
 use element_laws::first_broken;
-use gas_model::{Bytes, NoMemory, Problem};
+use gas_model::{Bytes, NoMemory, Problem, Var};
 use setting_text::write_setting;
 use std::alloc::Global;
+use tree_check::{TreeFault, Verdict, check_tree};
 
 /// What is found for a problem.
 #[derive(Debug, Drop)]
@@ -39,13 +42,39 @@ fn carry(alloc: Global, p: &Problem, tol: u64) -> Result<Option<Bytes>, NoMemory
     Ok(Some(text))
 }
 
+// The end where the checker finds a fault in a tree that passes: memory ran out. Another fault never comes, as the contract
+// of `refute` shows.
+fn stop(fault: TreeFault) -> Result<Answer, NoMemory>
+    ensures { IfOk result (λ answer. fault ≡ TreeFault.NoMemory → ⊥) }
+{
+    match fault {
+        TreeFault::NoMemory => Err(NoMemory),
+        _ => Ok(Answer::Open),
+    }
+}
+
+// The tree that closes the opening box by an empty variable, once the checker passed it.
+fn refute(alloc: Global, p: &Problem, var: Var) -> Result<Answer, NoMemory>
+    requires empty { first_empty p.now ≡ Some var }
+    requires within { IsWithin p.now }
+    ensures { (tol : ℕ) → IfOk result (IsAnswer tol p.now) }
+{
+    let text = write_empty_tree(alloc, var)?;
+    match check_tree(alloc, p, text.as_slice()) {
+        Ok(Verdict::Refutes) => Ok(Answer::Refuted(text)),
+        // This never comes: the tree passes, as the contract shows.
+        Ok(Verdict::Partial { .. }) => Ok(Answer::Open),
+        Err(fault) => stop(fault),
+    }
+}
+
 // A tree, where a variable of the opening box is empty, else the zero setting, where it is near.
 pub fn answer_of(alloc: Global, p: &Problem, tol: u64) -> Result<Answer, NoMemory>
     requires { tol ≤ most_tolerance }
     ensures { IfOk result (IsAnswer tol p.now) }
 {
     if let Some(var) = first_empty(p) {
-        return Ok(Answer::Refuted(write_empty_tree(alloc, var)?));
+        return refute(alloc, p, var);
     }
     match carry(alloc, p, tol)? {
         Some(text) => Ok(Answer::Carried(text)),

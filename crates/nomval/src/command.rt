@@ -2,13 +2,15 @@
 ghost use Rattle.std.specs.Prelude.{◌≡◌, ◌⊎◌, ◌≤◌, ◌++◌, ◌∷◌, [], ℕ, List, false, Err, IfErr, IsErrOf, OnOk, OnErr};
 ghost use Rattle.gas_desk.specs.Outside.{CountsOn, Rose, SameFiles, SameWriting};
 ghost use Rattle.element_laws.specs.declared.broken.Broken.{Broken};
-ghost use Rattle.nomval.specs.Answers.{HasCarried, HasRefuted, LeavesOpen, IsKept, IsNotKept, Breaks, FirstOffence, IsTooLong, HasReadFault, HasReadFaultInOrder, HoldsPart, OnlyOutChanges, MakesNoFile, SaysLine, ForCommand, OnCommand, IsUndisturbed, FilesStand, IsDone, IsBroken};
+ghost use Rattle.nomval.specs.Answers.{HasCarried, HasRefuted, LeavesOpen, IsKept, IsNotKept, Breaks, HasPassed, HasNotPassed, FirstOffence, IsTooLong, HasReadFault, HasReadFaultInOrder, HoldsPart, OnlyOutChanges, MakesNoFile, SaysLine, ForCommand, OnCommand, IsUndisturbed, FilesStand, IsDone, IsBroken};
 ghost use Rattle.nomval.specs.Lines.{line_of};
 ghost use Rattle.nomval.specs.Words.{Plain, plain, plain_of, texts, tolerance_of, most_tolerance};
 ghost use Rattle.nomval.specs.declared.status.InputFile.{InputFile};
 ghost use Rattle.nomval.specs.declared.status.InputFault.{InputFault};
+ghost use Rattle.nomval.specs.declared.status.NotFault.{NotFault};
 
 use crate::Status;
+use crate::check::check_flat;
 use crate::lines::line_of;
 use crate::replay::replay_flat;
 use crate::solve::solve_flat;
@@ -68,6 +70,8 @@ fn execute<D: Desk>(alloc: Global, desk: &mut D, command: Command<'_>) -> Status
     ensures kept { D.tells → result ≡ Status.Kept → IsKept (D.outside desk.old) (plain_of command.entry) }
     ensures broken { D.tells → (law : Broken) (id : List ℕ) → result ≡ Status.Broken law id → Breaks (D.outside desk.old) law id (plain_of command.entry) }
     ensures not_kept { D.tells → (law : Broken) (id : List ℕ) → result ≡ Status.Broken law id → IsNotKept (D.outside desk.old) (plain_of command.entry) }
+    ensures passes { D.tells → result ≡ Status.Passes → HasPassed (D.outside desk.old) (plain_of command.entry) }
+    ensures not_refutation { D.tells → (fault : NotFault) → result ≡ Status.NotRefutation fault → HasNotPassed (D.outside desk.old) fault (plain_of command.entry) }
     ensures bad_input { D.tells → (file : InputFile) (fault : InputFault) → result ≡ Status.BadInput file fault → FirstOffence (D.outside desk.old) file fault (plain_of command.entry) }
     ensures too_long { D.tells → (file : InputFile) → result ≡ Status.TooLong file → IsTooLong (D.outside desk.old) file (plain_of command.entry) }
     ensures read_fault { result ≡ Status.ReadFault → HasReadFault (D.outside desk.old) (D.outside desk.new) (plain_of command.entry) }
@@ -87,6 +91,7 @@ fn execute<D: Desk>(alloc: Global, desk: &mut D, command: Command<'_>) -> Status
             setting,
             tol,
         } => replay_flat(alloc, desk, problem, setting, tol),
+        Command::CheckFlat { problem, tree } => check_flat(alloc, desk, problem, tree),
     }
 }
 
@@ -94,9 +99,10 @@ fn execute<D: Desk>(alloc: Global, desk: &mut D, command: Command<'_>) -> Status
 /// desk.
 ///
 /// `solve-flat PROBLEM OUT [--tol n]` reads a flat problem and writes a setting or a refutation tree;
-/// `replay-flat PROBLEM SETTING [--tol n]` tells whether a setting carries a problem. The tolerance is in Pa^2, from 0
-/// to 10^16, and 10^8 where none is given. The order is: the words; PROBLEM: whether it can be read, its length, what it
-/// stands for; SETTING, if there is one, likewise; the work; OUT; the line.
+/// `replay-flat PROBLEM SETTING [--tol n]` tells whether a setting carries a problem;
+/// `check-flat PROBLEM TREE` tells whether a tree refutes it. The tolerance is in Pa^2, from 0 to 10^16, and 10^8 where
+/// none is given. The order is: the words; PROBLEM: whether it can be read, its length, what it stands for; SETTING or
+/// TREE, if there is one, likewise, but that a tree may be any bytes; the work; OUT; the line.
 pub fn run<D: Desk>(alloc: Global, words: &[&str], desk: &mut D) -> Status
     // The answers, with what OUT then holds.
     ensures accepted { D.tells → result ≡ Status.Accepted → ForCommand words.now (HasCarried (D.outside desk.old) (D.outside desk.new)) }
@@ -106,6 +112,9 @@ pub fn run<D: Desk>(alloc: Global, words: &[&str], desk: &mut D) -> Status
     ensures kept { D.tells → result ≡ Status.Kept → ForCommand words.now (IsKept (D.outside desk.old)) }
     ensures broken { D.tells → (law : Broken) (id : List ℕ) → result ≡ Status.Broken law id → ForCommand words.now (Breaks (D.outside desk.old) law id) }
     ensures not_kept { D.tells → (law : Broken) (id : List ℕ) → result ≡ Status.Broken law id → ForCommand words.now (IsNotKept (D.outside desk.old)) }
+
+    ensures passes { D.tells → result ≡ Status.Passes → ForCommand words.now (HasPassed (D.outside desk.old)) }
+    ensures not_refutation { D.tells → (fault : NotFault) → result ≡ Status.NotRefutation fault → ForCommand words.now (HasNotPassed (D.outside desk.old) fault) }
 
     // The causes of each refusal, and their order.
     ensures usage { (at : ℕ) → result ≡ Status.Usage at → plain (texts words.now) ≡ Err at }
@@ -134,6 +143,10 @@ pub fn run<D: Desk>(alloc: Global, words: &[&str], desk: &mut D) -> Status
         → IsKept (D.outside desk.old) c → (result ≡ Status.Kept) ⊎ (result ≡ Status.NoMemory) }
     ensures due_broken { D.tells → (c : Plain) → IsUndisturbed words.now (D.outside desk.old) (D.outside desk.new) c
         → IsNotKept (D.outside desk.old) c → IsBroken result ⊎ (result ≡ Status.NoMemory) }
+    ensures due_passes { D.tells → (c : Plain) → IsUndisturbed words.now (D.outside desk.old) (D.outside desk.new) c
+        → HasPassed (D.outside desk.old) c → (result ≡ Status.Passes) ⊎ (result ≡ Status.NoMemory) }
+    ensures due_not_refutation { D.tells → (c : Plain) (fault : NotFault) → IsUndisturbed words.now (D.outside desk.old) (D.outside desk.new) c
+        → HasNotPassed (D.outside desk.old) fault c → (result ≡ Status.NotRefutation fault) ⊎ (result ≡ Status.NoMemory) }
     ensures due_bad_input { D.tells → (c : Plain) (file : InputFile) (fault : InputFault) → IsUndisturbed words.now (D.outside desk.old) (D.outside desk.new) c
         → FirstOffence (D.outside desk.old) file fault c → (result ≡ Status.BadInput file fault) ⊎ (result ≡ Status.NoMemory) }
     ensures due_too_long { D.tells → (c : Plain) (file : InputFile) → IsUndisturbed words.now (D.outside desk.old) (D.outside desk.new) c

@@ -6,7 +6,7 @@ ghost use Rattle.gas_model.specs.Near.{SettingFits};
 ghost use Rattle.flat_text.specs.Text.{flat_of};
 ghost use Rattle.setting_text.specs.Reading.{setting_of};
 ghost use Rattle.nomval.specs.Answers.{ReadRose};
-ghost use Rattle.nomval.specs.Readings.{limit, judged, stands, problem_held, setting_held, IsFlatFault, IsSettingFault, IsBadProblem, IsBadSetting, IsLongProblem, IsLongSetting};
+ghost use Rattle.nomval.specs.Readings.{limit, judged, stands, problem_held, setting_held, tree_held, IsLongTree, IsFlatFault, IsSettingFault, IsBadProblem, IsBadSetting, IsLongProblem, IsLongSetting};
 ghost use Rattle.nomval.specs.Refusals.{IsUnread, IsUnjudged, IsRefusal};
 ghost use Rattle.nomval.specs.declared.status.InputFile.{InputFile};
 ghost use Rattle.nomval.specs.declared.status.InputFault.{InputFault};
@@ -76,6 +76,19 @@ pub fn read_problem<D: Desk>(alloc: Global, desk: &mut D, name: &str) -> Result<
         Ok(bytes) => problem_of(alloc, bytes.as_slice()),
         Err(status) => Err(status),
     }
+}
+
+// The bytes of the named file, which may be a tree, or the status that says why they can't be had.
+pub fn read_tree_file<D: Desk>(alloc: Global, desk: &mut D, name: &str) -> Result<Bytes, Status>
+    ensures stands { D.tells → IfOk result (λ bytes. tree_held name.now (D.outside desk.old) ≡ stands bytes) }
+    ensures too_long { D.tells → (file : InputFile) → IsErrOf result (Status.TooLong file) → IsLongTree name.now (D.outside desk.old) file }
+    ensures read_fault { IsErrOf result Status.ReadFault → ReadRose name.now (D.outside desk.old) (D.outside desk.new) }
+    ensures refusals { IfErr result IsUnread }
+    ensures files { D.tells → SameFiles (D.outside desk.old) (D.outside desk.new) }
+    ensures said { D.tells → (D.outside desk.new).said ≡ (D.outside desk.old).said }
+    ensures counts { CountsOn (D.outside desk.old) (D.outside desk.new) }
+{
+    read_input(alloc, desk, name, InputFile::TreeFile)
 }
 
 // The setting of the problem that the bytes stand for.

@@ -2,6 +2,7 @@
 #![tactic(auto)]
 
 mod answer;
+mod check;
 mod command;
 mod files;
 mod lines;
@@ -9,14 +10,12 @@ mod opening;
 mod replay;
 mod solve;
 mod status;
+#[cfg(test)]
+mod tests;
 mod undisturbed;
 mod words;
 mod zero;
 
 pub use command::run;
+pub use status::{InputFault, InputFile, NotFault, Status};
 pub use undisturbed::run_undisturbed;
-
-#[cfg(test)]
-mod tests;
-
-pub use status::{InputFault, InputFile, Status};

@@ -1,14 +1,15 @@
 // The line that the program says of each status.
 ghost use Rattle.std.specs.Prelude.{◌≡◌, ◌++◌, IfOk, OnOk, decimal, codes};
-ghost use Rattle.nomval.specs.Lines.{file_word, many_word, key_word, law_word, model_text, flat_text_fault, setting_text_fault, fault_text, line_of};
+ghost use Rattle.nomval.specs.Lines.{file_word, many_word, key_word, law_word, model_text, flat_text_fault, setting_text_fault, fault_text, tree_text, not_text, line_of};
 
-use crate::{InputFault, InputFile, Status};
+use crate::{InputFault, InputFile, NotFault, Status};
 use element_laws::Broken;
 use flat_text::FlatFault;
 use gas_model::{Bytes, Many, ModelFault, Name, NoMemory};
 use itoa::Buffer;
 use setting_text::{Key, SettingFault};
 use std::alloc::Global;
+use tree_check::TreeFault;
 
 fn file_word(file: InputFile) -> &'static [u8]
     ensures { result.now ≡ file_word file }
@@ -16,6 +17,7 @@ fn file_word(file: InputFile) -> &'static [u8]
     match file {
         InputFile::Flat => b"problem",
         InputFile::SettingFile => b"setting",
+        InputFile::TreeFile => b"tree",
     }
 }
 
@@ -144,6 +146,40 @@ fn put_broken(line: &mut Bytes, law: Broken, id: &Name) -> Result<(), NoMemory>
     put_named(line, law_word(law), id)
 }
 
+// The first line of a tree that is at fault.
+fn put_tree_fault(line: &mut Bytes, fault: &TreeFault) -> Result<(), NoMemory>
+    ensures { OnOk result (line.new ≡ line.old ++ tree_text fault.now) }
+{
+    match fault {
+        TreeFault::NotTree { line: number } => put_numbered(line, b"not tree line ", *number),
+        TreeFault::WideNumber { line: number } => put_numbered(line, b"wide number line ", *number),
+        TreeFault::BadStep { line: number } => put_numbered(line, b"bad step line ", *number),
+        TreeFault::WrongBranch { line: number } => {
+            put_numbered(line, b"wrong branch line ", *number)
+        }
+        TreeFault::WrongEnd { line: number } => put_numbered(line, b"wrong end line ", *number),
+        TreeFault::NoMemory => Ok(()),
+    }
+}
+
+// Why a text is no refutation.
+fn put_not(line: &mut Bytes, fault: &NotFault) -> Result<(), NoMemory>
+    ensures { OnOk result (line.new ≡ line.old ++ not_text fault.now) }
+{
+    match fault {
+        NotFault::Tree(fault) => put_tree_fault(line, fault),
+        NotFault::Left { line: number } => put_numbered(line, b"open line ", *number),
+    }
+}
+
+// That a text is no refutation, and why.
+fn put_no_refutation(line: &mut Bytes, fault: &NotFault) -> Result<(), NoMemory>
+    ensures { OnOk result (line.new ≡ line.old ++ (codes "not refutation " ++ not_text fault.now)) }
+{
+    line.append(b"not refutation ")?;
+    put_not(line, fault)
+}
+
 // The line of a status, without its line feed.
 pub fn line_of(alloc: Global, status: &Status) -> Result<Bytes, NoMemory>
     ensures { IfOk result (λ line. line ≡ line_of status.now) }
@@ -155,6 +191,8 @@ pub fn line_of(alloc: Global, status: &Status) -> Result<Bytes, NoMemory>
         Status::Unfinished => line.append(b"unfinished")?,
         Status::Kept => line.append(b"kept")?,
         Status::Broken { law, id } => put_broken(&mut line, *law, id)?,
+        Status::Passes => line.append(b"passes")?,
+        Status::NotRefutation(fault) => put_no_refutation(&mut line, fault)?,
         Status::Usage { at } => put_numbered(&mut line, b"usage word ", *at)?,
         Status::BadInput { file, fault } => put_bad_input(&mut line, *file, fault)?,
         Status::TooLong { file } => put_both(&mut line, b"too long ", file_word(*file))?,

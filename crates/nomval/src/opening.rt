@@ -1,5 +1,6 @@
 // The opening box, as far as it tells that a problem has no point.
 ghost use Rattle.std.specs.Prelude.{◌≡◌, ◌++◌, IfOk, IfSome, OnOk, ◌<◌, int_lt, length, position};
+ghost use Rattle.gas_model.specs.Within.{IsWithin};
 ghost use Rattle.nomval.specs.Opening.{is_flow_empty, is_square_empty, first_empty, empty_tree, var_text};
 
 use gas_model::{ArcRow, Bytes, NoMemory, NodeRow, Problem, Var};
@@ -31,7 +32,8 @@ fn first_empty_square(p: &Problem) -> Option<usize>
 
 // The first variable whose bounds leave nothing, flows before squares.
 pub fn first_empty(p: &Problem) -> Option<Var>
-    ensures { result ≡ first_empty p.now }
+    ensures first { result ≡ first_empty p.now }
+    ensures within { IsWithin p.now }
 {
     if let Some(arc) = first_empty_flow(p.arcs()) {
         return Some(Var::Flow(arc as u32));

@@ -5,6 +5,7 @@ ghost use Rattle.nomval.specs.Exits.{exit_of};
 use flat_text::FlatFault;
 use gas_model::Name;
 use setting_text::SettingFault;
+use tree_check::TreeFault;
 
 /// An input file of a command.
 #[derive(Clone, Copy, Debug, PartialEq, Eq)]
@@ -13,6 +14,8 @@ pub enum InputFile {
     Flat,
     /// The setting.
     SettingFile,
+    /// The refutation tree.
+    TreeFile,
 }
 
 /// Why an input file stands for nothing. None of these is want of memory.
@@ -20,6 +23,15 @@ pub enum InputFile {
 pub enum InputFault {
     OfFlat(FlatFault),
     OfSetting(SettingFault),
+}
+
+/// Why a text is no refutation. None of these is want of memory.
+#[derive(Clone, Copy, Debug, PartialEq, Eq)]
+pub enum NotFault {
+    /// The first line at fault.
+    Tree(TreeFault),
+    /// It passes, but leaves boxes open, the first at this line.
+    Left { line: u64 },
 }
 
 /// How a command ended.
@@ -35,6 +47,10 @@ pub enum Status {
     Kept,
     /// The setting doesn't. This is the first law that it breaks, and the id of that law's arc or node.
     Broken { law: element_laws::Broken, id: Name },
+    /// The tree passes and leaves no box open: nothing carries the nomination.
+    Passes,
+    /// The text is no refutation of the problem.
+    NotRefutation(NotFault),
     /// The words aren't in plain form: no plain words begin as these do up to the word of this number, from 0.
     Usage { at: u64 },
     /// The first input file that stands for nothing, and why.
@@ -55,10 +71,10 @@ impl Status {
         ensures { result ≡ exit_of self.now }
     {
         match self {
-            Status::Accepted | Status::Kept => 0,
+            Status::Accepted | Status::Kept | Status::Passes => 0,
             Status::Rejected => 1,
             Status::Unfinished => 2,
-            Status::Broken { .. } => 3,
+            Status::Broken { .. } | Status::NotRefutation(_) => 3,
             Status::Usage { .. } => 64,
             Status::BadInput { .. } | Status::TooLong { .. } => 65,
             Status::ReadFault => 66,

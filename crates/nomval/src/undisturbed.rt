@@ -2,11 +2,12 @@
 ghost use Rattle.std.specs.Prelude.{◌≡◌, ◌⊎◌, ◌++◌, ◌∷◌, [], ℕ, List, Ok, Err};
 ghost use Rattle.gas_desk.specs.Never.{never_failing};
 ghost use Rattle.element_laws.specs.declared.broken.Broken.{Broken};
-ghost use Rattle.nomval.specs.Answers.{HasCarried, HasRefuted, LeavesOpen, IsKept, IsNotKept, Breaks, FirstOffence, IsTooLong, OnlyOutChanges, ForCommand, OnCommand, FilesStand, IsDone};
+ghost use Rattle.nomval.specs.Answers.{HasCarried, HasRefuted, LeavesOpen, IsKept, IsNotKept, Breaks, HasPassed, HasNotPassed, FirstOffence, IsTooLong, OnlyOutChanges, ForCommand, OnCommand, FilesStand, IsDone};
 ghost use Rattle.nomval.specs.Lines.{line_of};
 ghost use Rattle.nomval.specs.Words.{Plain, plain, texts};
 ghost use Rattle.nomval.specs.declared.status.InputFile.{InputFile};
 ghost use Rattle.nomval.specs.declared.status.InputFault.{InputFault};
+ghost use Rattle.nomval.specs.declared.status.NotFault.{NotFault};
 
 use crate::{Status, run};
 use gas_desk::NeverFails;
@@ -26,6 +27,8 @@ pub fn run_undisturbed(alloc: Global, words: &[&str], desk: &mut NeverFails) -> 
     ensures kept { result ≡ Status.Kept → ForCommand words.now (IsKept (never_failing desk.old)) }
     ensures broken { (law : Broken) (id : List ℕ) → result ≡ Status.Broken law id → ForCommand words.now (Breaks (never_failing desk.old) law id) }
     ensures not_kept { (law : Broken) (id : List ℕ) → result ≡ Status.Broken law id → ForCommand words.now (IsNotKept (never_failing desk.old)) }
+    ensures passes { result ≡ Status.Passes → ForCommand words.now (HasPassed (never_failing desk.old)) }
+    ensures not_refutation { (fault : NotFault) → result ≡ Status.NotRefutation fault → ForCommand words.now (HasNotPassed (never_failing desk.old) fault) }
     ensures usage { (at : ℕ) → result ≡ Status.Usage at → plain (texts words.now) ≡ Err at }
     ensures bad_input { (file : InputFile) (fault : InputFault) → result ≡ Status.BadInput file fault → ForCommand words.now (FirstOffence (never_failing desk.old) file fault) }
     ensures too_long { (file : InputFile) → result ≡ Status.TooLong file → ForCommand words.now (IsTooLong (never_failing desk.old) file) }

@@ -1,12 +1,12 @@
 // The words of the command line.
 ghost use Rattle.std.specs.Prelude.{◌≡◌, ◌≤◌, ◌<◌, ◌+◌, ◌^◌, ℕ, List, IfOk};
 ghost use Rattle.std.specs.Result.{result_map_both};
-ghost use Rattle.nomval.specs.Words.{is_file_word, file_at, tolerance_in, most_tolerance, number_at, options_at, plain, plain_of, tolerance_of, two_files, Plain, texts};
+ghost use Rattle.nomval.specs.Words.{is_file_word, file_at, tolerance_in, most_tolerance, no_more, files_alone, number_at, options_at, plain, plain_of, tolerance_of, two_files, Plain, texts};
 ghost use Rattle.line_text.specs.Numerals.{natural};
 
 use line_text::size_at;
 
-/// A command, with the files that it names and its tolerance in Pa^2.
+/// A command, with the files that it names and, where laws may be off, its tolerance in Pa^2.
 #[derive(Clone, Copy, Debug)]
 pub enum Command<'a> {
     SolveFlat {
@@ -18,6 +18,10 @@ pub enum Command<'a> {
         problem: &'a str,
         setting: &'a str,
         tol: u64,
+    },
+    CheckFlat {
+        problem: &'a str,
+        tree: &'a str,
     },
 }
 
@@ -97,6 +101,23 @@ fn two_files<'a>(words: &[&'a str]) -> Result<(&'a str, &'a str, u64), u64>
     Ok((first, second, tol))
 }
 
+// The end of the words, before the word at this place.
+fn no_more(at: u64, words: &[&str]) -> Result<(), u64>
+    ensures { result_map_both (λ x. tt) (λ e. e) result ≡ no_more at (texts words.entry.now) }
+{
+    if words.is_empty() { Ok(()) } else { Err(at) }
+}
+
+// Two words that name files, and no more, after the command.
+fn files_alone<'a>(words: &[&'a str]) -> Result<(&'a str, &'a str), u64>
+    ensures { (make : List ℕ → List ℕ → Plain) → result_map_both (λ x. make x.0.now x.1.now) (λ e. e) result ≡ files_alone make (texts words.entry.now) }
+{
+    let (first, rest) = file_at(1, words)?;
+    let (second, rest) = file_at(2, rest)?;
+    no_more(3, rest)?;
+    Ok((first, second))
+}
+
 // The command that the words are, or the place where the words leave the plain form.
 pub fn read_words<'a>(words: &[&'a str]) -> Result<Command<'a>, u64>
     ensures exact { result_map_both plain_of (λ at. at) result ≡ plain (texts words.entry.now) }
@@ -117,6 +138,10 @@ pub fn read_words<'a>(words: &[&'a str]) -> Result<Command<'a>, u64>
                 setting,
                 tol,
             })
+        }
+        "check-flat" => {
+            let (problem, tree) = files_alone(rest)?;
+            Ok(Command::CheckFlat { problem, tree })
         }
         _ => Err(0),
     }

@@ -1,0 +1,13 @@
+pub mod NumberFits
+pub mod SideFits
+pub mod EndFits
+pub mod HeldEnds
+pub mod OneLeft
+pub mod OtherRules
+pub mod LawFacts
+pub mod LawSteps
+pub mod NodeFlows
+pub mod CutNodes
+pub mod Undoing
+pub mod Heads
+pub mod Judging

@@ -1,0 +1,17 @@
+use Rattle.std.proofs.Common.{ap, not, to_z-of_z}
+use Rattle.element_laws.proofs.Connectives.{or_first, or_second}
+use Rattle.tree_check.proofs.SideFits.{sides_fit}
+use Rattle.tree_check.proofs.arc_rules.reach_closing.Goals as goal
+
+pub returns-then-not-at_most : goal.returns-then-not-at_most
+returns-then-not-at_most c =
+    let f = sides_fit c.args.e c.requires.ends in
+    let x = simp (to_z-of_z, c.ranges.scale, c.ranges.high_loss, f.u_lo, f.v_hi) at c.at_most.ensures in
+    rw x (or_first _ _ (ap not (rw x at c.if-not-at_most.true)))
+
+pub returns-else-not-at_most : goal.returns-else-not-at_most
+returns-else-not-at_most c =
+    let f = sides_fit c.args.e c.requires.ends in
+    let x = simp (to_z-of_z, c.ranges.scale, c.ranges.high_loss, f.u_lo, f.v_hi) at c.at_most.ensures in
+    let y = simp (to_z-of_z, c.ranges.scale, c.ranges.high_loss, f.u_hi, f.v_lo) at c.at_most-else-not-at_most.ensures in
+    rw y (or_second _ _ (ap not (rw x at c.if-not-at_most.false)))

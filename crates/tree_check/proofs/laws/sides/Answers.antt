@@ -1,0 +1,23 @@
+use Rattle.std.proofs.Common.{refl}
+use Rattle.tree_check.proofs.HeldEnds.{safe_flows, safe_squares}
+use Rattle.tree_check.proofs.LawFacts.{arc_vars}
+use Rattle.tree_check.proofs.laws.sides.Goals as goal
+
+pub ends-q-requires : goal.ends-q-requires
+ends-q-requires c = (arc_vars c.args.p.now c.args.b.now c.args.arc c.args.row.now c.requires.fits c.requires.row).q
+
+pub ends-u-requires : goal.ends-u-requires
+ends-u-requires c = (arc_vars c.args.p.now c.args.b.now c.args.arc c.args.row.now c.requires.fits c.requires.row).u
+
+pub ends-v-requires : goal.ends-v-requires
+ends-v-requires c = (arc_vars c.args.p.now c.args.b.now c.args.arc c.args.row.now c.requires.fits c.requires.row).v
+
+pub returns : goal.returns
+returns c = record {
+  ends = rw (c.ends-q.ensures.value, c.ends-u.ensures.value, c.ends-v.ensures.value) refl;
+  safe = record {
+    q = safe_flows c.ends-q.result c.ends-q.ensures.limits;
+    u = safe_squares c.ends-u.result c.ends-u.ensures.limits;
+    v = safe_squares c.ends-v.result c.ends-v.ensures.limits;
+  };
+}

@@ -1,0 +1,136 @@
+// Sets of nodes that shut arcs cut off from the others.
+ghost use Rattle.std.specs.Prelude.{◌≡◌, ◌&&◌, ◌||◌, not, nat_lt, length, slice_get, Some, true, IsTrue};
+ghost use Rattle.std.specs.List.{list_all};
+ghost use Rattle.gas_model.specs.Choices.{fixed_state};
+ghost use Rattle.tree_rules.specs.NodeRules as node_rule;
+ghost use Rattle.tree_rules.specs.Rules as spec;
+ghost use Rattle.tree_check.specs.Cuts.{ascends, all_inside, is_cut_off};
+ghost use Rattle.tree_check.specs.Held.{IsBoxAt};
+
+use crate::open_box::OpenBox;
+use crate::states::fixed_state;
+use gas_model::{ArcRow, ArcState, Ends, Problem};
+
+// Whether there is a node, and each is after the one before it.
+fn ascend(nodes: &[u32]) -> bool
+    ensures { result ≡ ascends nodes.now }
+{
+    let Some((first, rest)) = nodes.split_first() else {
+        return false;
+    };
+    let mut last = *first;
+    for node in rest {
+        if *node <= last {
+            return false;
+        }
+        last = *node;
+    }
+    true
+}
+
+// Whether each is one of so many nodes.
+fn all_inside(count: usize, nodes: &[u32]) -> bool
+    ensures { result ≡ all_inside count nodes.now }
+{
+    nodes.iter().all(|node| (*node as usize) < count)
+}
+
+// Whether a node is among nodes that ascend.
+fn is_among(nodes: &[u32], node: u32) -> bool
+    requires { IsTrue (ascends nodes.now) }
+    ensures { result ≡ node_rule.is_cut_node nodes.now node }
+{
+    match nodes.binary_search(&node) {
+        Ok(_) => true,
+        Err(_) => false,
+    }
+}
+
+// Whether exactly one end of an arc is among nodes that ascend.
+fn crosses(nodes: &[u32], row: &ArcRow) -> bool
+    requires { IsTrue (ascends nodes.now) }
+    ensures { result ≡ node_rule.crosses nodes.now row.now }
+{
+    let from = is_among(nodes, row.from);
+    let to = is_among(nodes, row.to);
+    if from { !to } else { to }
+}
+
+fn is_shut(state: Option<ArcState>) -> bool
+    ensures { result ≡ spec.is_shut state }
+{
+    match state {
+        Some(ArcState::Shut) => true,
+        Some(ArcState::Opened) => false,
+        Some(ArcState::Active) => false,
+        Some(ArcState::Bypass) => false,
+        None => false,
+    }
+}
+
+// Whether an arc doesn't join nodes that ascend to others, or is shut.
+fn is_cut_off(p: &Problem, b: &OpenBox, nodes: &[u32], arc: u32, row: &ArcRow) -> bool
+    requires nodes { IsTrue (ascends nodes.now) }
+    requires fits { IsBoxAt p.now b.now }
+    requires row { slice_get p.now.arcs arc ≡ Some row.now }
+    ensures { result ≡ is_cut_off p.now b.now.part nodes.now arc row.now }
+{
+    if crosses(nodes, row) {
+        is_shut(fixed_state(p, b, arc, row))
+    } else {
+        true
+    }
+}
+
+// Whether all arcs are so.
+fn are_cut_off(p: &Problem, b: &OpenBox, nodes: &[u32]) -> bool
+    requires nodes { IsTrue (ascends nodes.now) }
+    requires fits { IsBoxAt p.now b.now }
+    ensures { result ≡ node_rule.all_arcs (is_cut_off p.now b.now.part nodes.now) 0 p.now.arcs }
+{
+    for (arc, row) in p.arcs().iter().enumerate() {
+        if !is_cut_off(p, b, nodes, arc as u32, row) {
+            return false;
+        }
+    }
+    true
+}
+
+// The supply of nodes together, at least and at most.
+fn supplies(p: &Problem, nodes: &[u32]) -> Ends
+    requires ascend { IsTrue (ascends nodes.now) }
+    requires inside { IsTrue (all_inside (length p.now.nodes) nodes.now) }
+    ensures lo { result.lo ≡ node_rule.sum_nodes (node_rule.least_supply p.now.nodes) nodes.now }
+    ensures hi { result.hi ≡ node_rule.sum_nodes (node_rule.greatest_supply p.now.nodes) nodes.now }
+{
+    let rows = p.nodes();
+    let mut lo: i128 = 0;
+    let mut hi: i128 = 0;
+    for node in nodes {
+        let row = &rows[*node as usize];
+        lo += row.b_min as i128;
+        hi += row.b_max as i128;
+    }
+    Ends { lo, hi }
+}
+
+// Whether nodes together bring in too much, or too little, to balance without other arcs.
+fn is_unbalanced(p: &Problem, nodes: &[u32]) -> bool
+    requires ascend { IsTrue (ascends nodes.now) }
+    requires inside { IsTrue (all_inside (length p.now.nodes) nodes.now) }
+    ensures { result ≡ node_rule.is_unbalanced p.now.nodes nodes.now }
+{
+    let supply = supplies(p, nodes);
+    0 < supply.lo || supply.hi < 0
+}
+
+/// Whether nodes in strictly ascending order are joined to others by shut arcs alone, and can't balance together.
+pub fn cuts(p: &Problem, b: &OpenBox, nodes: &[u32]) -> bool
+    requires { IsBoxAt p.now b.now }
+    ensures { result ≡ spec.cuts p.now b.now.part nodes.now }
+{
+    if !ascend(nodes) || !all_inside(p.nodes().len(), nodes) {
+        return false;
+    }
+    are_cut_off(p, b, nodes) && is_unbalanced(p, nodes)
+}

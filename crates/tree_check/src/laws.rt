@@ -1,0 +1,131 @@
+// Steps and closings by the law of an arc of a problem.
+ghost use Rattle.std.specs.Prelude.{◌≡◌, ℤ, false, option_map, slice_get, Some, IfSome};
+ghost use Rattle.std.specs.Option.{option_map_or};
+ghost use Rattle.tree_rules.specs.Rules as spec;
+ghost use Rattle.tree_check.specs.ArcSides.{ends_of_sides, var_of_side, law_of_form, IsFormWithin, AreSafeSides, IsSafeAt};
+ghost use Rattle.tree_check.specs.Held.{IsSafe, IsBoxAt};
+
+use crate::arc_rules::{ArcSide, ArcSides};
+use crate::forms::{Form, form_of};
+use crate::lookup::arc_at;
+use crate::open_box::OpenBox;
+use crate::rules::{Aim, form_closing, form_step};
+use crate::states::fixed_state;
+use gas_model::{ArcRow, Problem, Var};
+use tree_cert::Rule;
+
+// The law of an arc in its state, if that is fixed.
+fn fixed_form(p: &Problem, b: &OpenBox, arc: u32, row: &ArcRow) -> Option<Form>
+    requires fits { IsBoxAt p.now b.now }
+    requires row { slice_get p.now.arcs arc ≡ Some row.now }
+    ensures form { option_map law_of_form result ≡ spec.fixed_form p.now b.now.part arc row.now }
+    ensures within { IfSome result (λ form. IsFormWithin (law_of_form form)) }
+{
+    match fixed_state(p, b, arc, row) {
+        None => None,
+        Some(state) => Some(form_of(&row.kind, state)),
+    }
+}
+
+// Which variable of an arc it is, if it is one.
+fn side_of(arc: u32, row: &ArcRow, var: Var) -> Option<ArcSide>
+    ensures side { option_map var_of_side result ≡ spec.arc_var arc row.now var }
+    ensures safe { (C : ℤ) → IsSafe var C → IfSome result (λ side. IsSafeAt side C) }
+{
+    match var {
+        Var::Flow(of) => { if of == arc { Some(ArcSide::Flow) } else { None } }
+        Var::Square(node) => {
+            if node == row.from {
+                Some(ArcSide::From)
+            } else if node == row.to {
+                Some(ArcSide::To)
+            } else {
+                None
+            }
+        }
+    }
+}
+
+// The ends of the variables of an arc.
+fn sides(p: &Problem, b: &OpenBox, arc: u32, row: &ArcRow) -> ArcSides
+    requires fits { IsBoxAt p.now b.now }
+    requires row { slice_get p.now.arcs arc ≡ Some row.now }
+    ensures ends { ends_of_sides result ≡ spec.arc_ends b.now.bounds arc row.now }
+    ensures safe { AreSafeSides result }
+{
+    let q = b.ends(Var::Flow(arc));
+    let u = b.ends(Var::Square(row.from));
+    let v = b.ends(Var::Square(row.to));
+    ArcSides { q, u, v }
+}
+
+// Whether by a rule of the law of an arc the end of a variable may become this value.
+fn row_step(
+    p: &Problem,
+    b: &OpenBox,
+    rule: Rule,
+    arc: u32,
+    row: &ArcRow,
+    var: Var,
+    low: bool,
+    value: i128,
+) -> bool
+    requires fits { IsBoxAt p.now b.now }
+    requires row { slice_get p.now.arcs arc ≡ Some row.now }
+    requires value { IsSafe var value }
+    ensures { result ≡ spec.row_step p.now b.now rule arc var low value row.now }
+{
+    match fixed_form(p, b, arc, row) {
+        None => false,
+        Some(form) => match side_of(arc, row, var) {
+            None => false,
+            Some(side) => {
+                let e = sides(p, b, arc, row);
+                form_step(&form, rule, b.scale(), e, Aim { side, low, value })
+            }
+        },
+    }
+}
+
+/// Whether by a rule of the law of an arc the end of a variable may become this value, which has the size of its ends.
+pub fn law_step(
+    p: &Problem,
+    b: &OpenBox,
+    rule: Rule,
+    arc: u32,
+    var: Var,
+    low: bool,
+    value: i128,
+) -> bool
+    requires fits { IsBoxAt p.now b.now }
+    requires value { IsSafe var value }
+    ensures { result ≡ spec.law_step p.now b.now rule arc var low value }
+{
+    match arc_at(p, arc) {
+        None => false,
+        Some(row) => row_step(p, b, rule, arc, row, var, low, value),
+    }
+}
+
+// Whether the law of an arc leaves no point of the box, by a rule.
+fn row_closing(p: &Problem, b: &OpenBox, rule: Rule, arc: u32, row: &ArcRow) -> bool
+    requires fits { IsBoxAt p.now b.now }
+    requires row { slice_get p.now.arcs arc ≡ Some row.now }
+    ensures { result ≡ spec.row_closing p.now b.now rule arc row.now }
+{
+    match fixed_form(p, b, arc, row) {
+        None => false,
+        Some(form) => form_closing(&form, rule, b.scale(), sides(p, b, arc, row)),
+    }
+}
+
+/// Whether the law of an arc leaves no point of the box, by a rule.
+pub fn law_closing(p: &Problem, b: &OpenBox, rule: Rule, arc: u32) -> bool
+    requires { IsBoxAt p.now b.now }
+    ensures { result ≡ option_map_or (spec.row_closing p.now b.now rule arc) (slice_get p.now.arcs arc) false }
+{
+    match p.arcs().get(arc as usize) {
+        None => false,
+        Some(row) => row_closing(p, b, rule, arc, row),
+    }
+}

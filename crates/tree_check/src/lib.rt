@@ -1,0 +1,27 @@
+//! A checker of refutation trees, which reads their lines one after the other and keeps one box.
+#![tactic(auto)]
+
+mod arc_rules;
+mod balance;
+mod branches;
+mod check;
+mod cuts;
+mod ends;
+mod forms;
+mod frames;
+mod laws;
+mod lookup;
+mod numbers;
+mod open_box;
+mod reader;
+mod rules;
+mod stack;
+mod states;
+mod steps;
+mod verdict;
+
+pub use check::check_tree;
+pub use verdict::{TreeFault, Verdict};
+
+#[cfg(test)]
+mod tests;
