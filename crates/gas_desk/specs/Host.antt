@@ -1,5 +1,5 @@
 -- The real files and the standard output, of whose contents nothing is told.
-use Rattle.std.specs.Prelude.{[], None, is_some}
+use Rattle.std.specs.Prelude.{[], None, false, is_some}
 use Rattle.std.specs.Option.{option_map}
 use Rattle.std.specs.declared.io.ErrorKind.{ErrorKind}
 use Rattle.std.specs.declared.io.ErrorKind.TheVariants.{OutOfMemory}
@@ -17,6 +17,7 @@ on_host d = record {
   said = [];
   reading = option_map (λ file. file.0) d.reading;
   writing = is_some d.writing;
+  finished = λ _. false;
   read_faults = λ _. d.read_faults;
   write_faults = d.write_faults;
 }

@@ -1,8 +1,9 @@
 -- Files in memory, as what stands outside.
-use Rattle.std.specs.Prelude.{◌≡◌, ℕ, ◌&&◌, List, [], ◌∷◌, ◌++◌, drop, Option, None, Some, is_some, if◌then◌else◌}
+use Rattle.std.specs.Prelude.{◌≡◌, ℕ, Bool, false, not, ◌&&◌, List, [], ◌∷◌, ◌++◌, drop, map, Option, None, Some, is_some, if◌then◌else◌}
 use Rattle.std.specs.Option.{option_to_list}
 use Rattle.std.specs.Str.{bytes_eq}
 use Rattle.gas_desk.specs.Outside.{Outside}
+use Rattle.gas_desk.specs.declared.shelf.Kept.{Kept}
 use Rattle.gas_desk.specs.declared.shelf.Shelf.{Shelf}
 
 -- what the first file of this name holds
@@ -10,9 +11,23 @@ abbrev pub held : List (List ℕ × List ℕ) → List ℕ → Option (List ℕ)
 held [] name = None
 held (file ∷ files) name = if bytes_eq file.0 name then Some file.1 else held files name
 
+-- whether the first kept file of this name is finished
+abbrev pub kept_finished : List Kept → List ℕ → Bool
+kept_finished [] name = false
+kept_finished (kept ∷ more) name = if bytes_eq kept.file.0 name then kept.finished else kept_finished more name
+
+-- the kept files
+abbrev pub kept_files : List Kept → List (List ℕ × List ℕ)
+kept_files kept = map (λ k. k.file) kept
+
 -- the files, the one that was started last before all others
 abbrev pub shelf_files : Shelf → List (List ℕ × List ℕ)
-shelf_files s = option_to_list s.last ++ s.written.items ++ s.given
+shelf_files s = option_to_list s.last ++ kept_files s.written.items ++ s.given
+
+-- whether a file is finished: the one that was started last, or one before it
+abbrev pub is_finished : Option (List ℕ × List ℕ) → Bool → List Kept → List ℕ → Bool
+is_finished None finished written name = kept_finished written name
+is_finished (Some file) finished written name = if bytes_eq file.0 name then finished else kept_finished written name
 
 -- the name of the file that was started last
 abbrev pub last_name : Option (List ℕ × List ℕ) → List ℕ
@@ -27,7 +42,8 @@ on_shelf s = record {
   target = last_name s.last;
   said = s.said;
   reading = s.reading;
-  writing = s.writing && is_some s.last;
+  writing = s.open && not s.finished && is_some s.last;
+  finished = is_finished s.last s.finished s.written.items;
   read_faults = λ _. 0;
   write_faults = 0;
 }

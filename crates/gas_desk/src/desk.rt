@@ -1,7 +1,7 @@
 // What stands outside the program, by what was asked of it, with counts of its faults.
-ghost use Rattle.std.specs.Prelude.{◌≡◌, ◌<◌, ℕ, List, true, false, [], ◌∷◌, ◌++◌, length, Result, Some, None, IsSome, IfOk, OnOk, OnErr};
+ghost use Rattle.std.specs.Prelude.{◌≡◌, ◌<◌, ℕ, List, true, false, [], ◌∷◌, ◌++◌, length, Result, Some, None, IsSome, IfOk, OnOk, OnErr, IsErrOf};
 ghost use Rattle.std.specs.Io.{ReadsAtMost, WritesAtMost};
-ghost use Rattle.gas_desk.specs.Outside.{Outside, CountsOn, ReadCause, WriteCause, SameBut, SameFiles, SameReading, SameWriting, ReadTakes, WriteAdds};
+ghost use Rattle.gas_desk.specs.Outside.{Outside, CountsOn, ReadCause, WriteCause, SameBut, SameFiles, SameReading, SameMarks, SameMarksBut, SameReads, SameWrites, SameWriting, ReadTakes, WriteAdds};
 ghost use Rattle.gas_desk.specs.Call.{Call, starts_read, reads, starts_write, writes, finishes, says, moving_none};
 ghost use Rattle.gas_desk.specs.declared.desk.DeskStop.{DeskStop};
 
@@ -28,13 +28,19 @@ impl From<NoMemory> for DeskStop {
 ///
 /// Always known are which file is being read, whether one is being written, and how often reading
 /// and writing failed: a count for each name that is read, and one for all writing and saying. What
-/// the files hold and what was said is known only of a desk that tells it.
+/// the files hold, which of them are finished, and what was said is known only of a desk that tells
+/// it. Only `finish` marks a file as finished, and only a start to write it and `write` take that
+/// away.
 ///
 /// After a stop no content has changed. A start that stops leaves no file being read, or none being
-/// written. After a stopped `write` or `finish` the file isn't told any more to be complete.
+/// written. After a stopped `write` or `finish` the file isn't finished, and still being written.
 pub trait Desk {
     /// That the contents are told.
     ghost tells: { Type 0 };
+
+    /// That counts are exact: a call that reads moves no count of writing, a call that writes or says
+    /// none of reading, and a call that doesn't answer `Failed` moves none.
+    ghost counts_exactly: { Type 0 };
 
     /// What stands outside.
     ghost outside: { Self → Outside };
@@ -51,6 +57,10 @@ pub trait Desk {
         ensures files { tells → SameFiles (outside self.old) (outside self.new) }
         ensures said { tells → (outside self.new).said ≡ (outside self.old).said }
         ensures writing { SameWriting (outside self.old) (outside self.new) }
+        ensures unread { counts_exactly → (IsErrOf result DeskStop.Failed → ⊥)
+            → SameReads (outside self.old) (outside self.new) }
+        ensures unwritten { counts_exactly → SameWrites (outside self.old) (outside self.new) }
+        ensures marks { tells → SameMarks (outside self.old) (outside self.new) }
         ensures counts { CountsOn (outside self.old) (outside self.new) }
         ensures cause { ReadCause name.now (outside self.old) (outside self.new) result }
         ensures beyond { beyond (starts_read name.now) self.old self.new (moving_none result) };
@@ -65,6 +75,10 @@ pub trait Desk {
         ensures files { tells → SameFiles (outside self.old) (outside self.new) }
         ensures said { tells → (outside self.new).said ≡ (outside self.old).said }
         ensures writing { SameWriting (outside self.old) (outside self.new) }
+        ensures unread { counts_exactly → (IsErrOf result DeskStop.Failed → ⊥)
+            → SameReads (outside self.old) (outside self.new) }
+        ensures unwritten { counts_exactly → SameWrites (outside self.old) (outside self.new) }
+        ensures marks { tells → SameMarks (outside self.old) (outside self.new) }
         ensures counts { CountsOn (outside self.old) (outside self.new) }
         ensures cause { (n : List ℕ) → (outside self.old).reading ≡ Some n
             → ReadCause n (outside self.old) (outside self.new) result }
@@ -77,10 +91,16 @@ pub trait Desk {
         ensures target { tells → OnOk result ((outside self.new).target ≡ name.now) }
         ensures empty { tells → OnOk result ((outside self.new).files name.now ≡ Some []) }
         ensures kept { tells → OnErr result (SameFiles (outside self.old) (outside self.new)) }
+        ensures kept_marks { tells → OnErr result (SameMarks (outside self.old) (outside self.new)) }
         ensures others { tells → SameBut name.now (outside self.old) (outside self.new) }
         ensures said { tells → (outside self.new).said ≡ (outside self.old).said }
         ensures reading { SameReading (outside self.old) (outside self.new) }
         ensures left { tells → (outside self.new).left ≡ (outside self.old).left }
+        ensures unread { counts_exactly → SameReads (outside self.old) (outside self.new) }
+        ensures unwritten { counts_exactly → (IsErrOf result DeskStop.Failed → ⊥)
+            → SameWrites (outside self.old) (outside self.new) }
+        ensures unmarked { tells → OnOk result ((outside self.new).finished name.now ≡ false) }
+        ensures marks { tells → SameMarksBut name.now (outside self.old) (outside self.new) }
         ensures counts { CountsOn (outside self.old) (outside self.new) }
         ensures cause { WriteCause (outside self.old) (outside self.new) result }
         ensures beyond { beyond (starts_write name.now) self.old self.new (moving_none result) };
@@ -98,18 +118,30 @@ pub trait Desk {
         ensures writing { SameWriting (outside self.old) (outside self.new) }
         ensures reading { SameReading (outside self.old) (outside self.new) }
         ensures left { tells → (outside self.new).left ≡ (outside self.old).left }
+        ensures unread { counts_exactly → SameReads (outside self.old) (outside self.new) }
+        ensures unwritten { counts_exactly → (IsErrOf result DeskStop.Failed → ⊥)
+            → SameWrites (outside self.old) (outside self.new) }
+        ensures unmarked { tells → (outside self.new).finished (outside self.old).target ≡ false }
+        ensures marks { tells → SameMarksBut (outside self.old).target (outside self.old) (outside self.new) }
         ensures counts { CountsOn (outside self.old) (outside self.new) }
         ensures cause { WriteCause (outside self.old) (outside self.new) result }
         ensures beyond { beyond writes self.old self.new result };
 
-    /// Ends the writing.
+    /// Ends the writing, and marks the file as finished.
     fn finish(&mut self) -> Result<(), DeskStop>
         requires { (outside self.old).writing ≡ true }
         ensures ended { OnOk result ((outside self.new).writing ≡ false) }
+        ensures stopped { OnErr result ((outside self.new).writing ≡ true) }
         ensures files { tells → SameFiles (outside self.old) (outside self.new) }
         ensures said { tells → (outside self.new).said ≡ (outside self.old).said }
         ensures reading { SameReading (outside self.old) (outside self.new) }
         ensures left { tells → (outside self.new).left ≡ (outside self.old).left }
+        ensures unread { counts_exactly → SameReads (outside self.old) (outside self.new) }
+        ensures unwritten { counts_exactly → (IsErrOf result DeskStop.Failed → ⊥)
+            → SameWrites (outside self.old) (outside self.new) }
+        ensures marked { tells → OnOk result ((outside self.new).finished (outside self.old).target ≡ true) }
+        ensures unmarked { tells → OnErr result ((outside self.new).finished (outside self.old).target ≡ false) }
+        ensures marks { tells → SameMarksBut (outside self.old).target (outside self.old) (outside self.new) }
         ensures counts { CountsOn (outside self.old) (outside self.new) }
         ensures cause { WriteCause (outside self.old) (outside self.new) result }
         ensures beyond { beyond finishes self.old self.new (moving_none result) };
@@ -123,6 +155,10 @@ pub trait Desk {
         ensures reading { SameReading (outside self.old) (outside self.new) }
         ensures left { tells → (outside self.new).left ≡ (outside self.old).left }
         ensures writing { SameWriting (outside self.old) (outside self.new) }
+        ensures unread { counts_exactly → SameReads (outside self.old) (outside self.new) }
+        ensures unwritten { counts_exactly → (IsErrOf result DeskStop.Failed → ⊥)
+            → SameWrites (outside self.old) (outside self.new) }
+        ensures marks { tells → SameMarks (outside self.old) (outside self.new) }
         ensures counts { CountsOn (outside self.old) (outside self.new) }
         ensures cause { WriteCause (outside self.old) (outside self.new) result }
         ensures beyond { beyond says self.old self.new (moving_none result) };

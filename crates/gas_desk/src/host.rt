@@ -70,6 +70,8 @@ fn counted<T>(outcome: io::Result<T>, faults: &mut u64) -> Result<T, DeskStop>
 impl<R: Files + Print + Clone + Drop> Desk for HostDesk<R> {
     ghost tells = { ⊥ };
 
+    ghost counts_exactly = { Unit {0} };
+
     ghost outside = { on_host };
 
     ghost beyond = { λ call old new outcome.

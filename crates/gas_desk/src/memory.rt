@@ -46,6 +46,7 @@ impl MemDesk {
         ensures said { IfOk result (λ desk. (in_memory desk).said ≡ []) }
         ensures reading { IfOk result (λ desk. (in_memory desk).reading ≡ None) }
         ensures writing { IfOk result (λ desk. (in_memory desk).writing ≡ false) }
+        ensures finished { IfOk result (λ desk. (n : List ℕ) → (in_memory desk).finished n ≡ false) }
         ensures read_faults { IfOk result (λ desk.
             (n : List ℕ) → (in_memory desk).read_faults n ≡ 0) }
         ensures write_faults { IfOk result (λ desk. (in_memory desk).write_faults ≡ 0) }
@@ -124,6 +125,8 @@ impl Desk for MemDesk {
 
     ghost tells = { Unit {0} };
 
+    ghost counts_exactly = { Unit {0} };
+
     ghost outside = { in_memory };
 
     ghost beyond = { TakesTurn };
@@ -156,7 +159,7 @@ impl Desk for MemDesk {
 
     fn finish(&mut self) -> Result<(), DeskStop> {
         self.number_write()?;
-        self.shelf.stop_writing();
+        self.shelf.finish();
         Ok(())
     }
 

@@ -24,6 +24,7 @@ impl NeverFails {
         ensures said { IfOk result (λ desk. (never_failing desk).said ≡ []) }
         ensures reading { IfOk result (λ desk. (never_failing desk).reading ≡ None) }
         ensures writing { IfOk result (λ desk. (never_failing desk).writing ≡ false) }
+        ensures finished { IfOk result (λ desk. (n : List ℕ) → (never_failing desk).finished n ≡ false) }
         ensures read_faults { IfOk result (λ desk.
             (n : List ℕ) → (never_failing desk).read_faults n ≡ 0) }
         ensures write_faults { IfOk result (λ desk. (never_failing desk).write_faults ≡ 0) }
@@ -36,6 +37,8 @@ impl NeverFails {
 
 impl Desk for NeverFails {
     ghost tells = { Unit {0} };
+
+    ghost counts_exactly = { Unit {0} };
 
     ghost outside = { never_failing };
 
@@ -58,7 +61,7 @@ impl Desk for NeverFails {
     }
 
     fn finish(&mut self) -> Result<(), DeskStop> {
-        self.shelf.stop_writing();
+        self.shelf.finish();
         Ok(())
     }
 

@@ -1,11 +1,18 @@
 // What the desks in memory share: files by name, on which only want of memory stops a call.
-ghost use Rattle.std.specs.Prelude.{◌≡◌, ◌≢◌, ◌<◌, ◌≤◌, ℕ, true, false, [], ◌∷◌, ◌++◌, length, take, min, unwrap_or, Some, None, IsSome, IfOk, OnOk, OnErr, MatchOption, MatchResult};
+ghost use Rattle.std.specs.Prelude.{◌≡◌, ◌≢◌, ◌<◌, ◌≤◌, ℕ, List, true, false, [], ◌∷◌, ◌++◌, length, take, min, unwrap_or, Some, None, IsSome, IfOk, OnOk, OnErr, MatchOption, MatchResult};
 ghost use Rattle.std.specs.Option.{option_map, option_to_list};
-ghost use Rattle.gas_desk.specs.Outside.{SameBut, SameFiles, SameWriting, ReadTakes, WriteAdds, SameReading};
-ghost use Rattle.gas_desk.specs.Shelf.{held, on_shelf, shelf_files, LastGrows};
+ghost use Rattle.gas_desk.specs.Outside.{SameBut, SameFiles, SameMarks, SameMarksBut, SameReading, SameWriting, ReadTakes, WriteAdds};
+ghost use Rattle.gas_desk.specs.Shelf.{held, kept_files, on_shelf, shelf_files, LastGrows};
 
 use gas_model::{Bytes, List, Name, NoMemory};
 use std::alloc::Global;
+
+// A file that was started, but not as the last.
+#[derive(Drop)]
+struct Kept {
+    file: (Name, Bytes),
+    finished: bool,
+}
 
 // Files in memory, and the lines said. Of the files with one name the first counts, in this order:
 // the one that was started last, those started before it from the latest on, those given at first.
@@ -13,9 +20,11 @@ use std::alloc::Global;
 pub struct Shelf {
     alloc: Global,
     given: List<(Name, Bytes)>,
-    written: Vec<(Name, Bytes)>,
+    written: Vec<Kept>,
     last: Option<(Name, Bytes)>,
-    writing: bool,
+    // Whether the last file is finished, and whether no later start has stopped.
+    finished: bool,
+    open: bool,
     // The name of the file being read, all that it held at its start, and how much was taken.
     reading: Option<Name>,
     source: Bytes,
@@ -30,6 +39,18 @@ fn held_in<'a>(files: &'a [(Name, Bytes)], name: &str) -> Option<&'a [u8]>
     for file in files {
         if file.0.as_str() == name {
             return Some(file.1.as_slice());
+        }
+    }
+    None
+}
+
+// The same of files that were started.
+fn held_in_kept<'a>(files: &'a [Kept], name: &str) -> Option<&'a [u8]>
+    ensures { option_map (λ s. s.now) result ≡ held (kept_files files.entry.now) name.now }
+{
+    for kept in files {
+        if kept.file.0.as_str() == name {
+            return Some(kept.file.1.as_slice());
         }
     }
     None
@@ -52,13 +73,15 @@ impl Shelf {
         ensures said { (on_shelf result).said ≡ [] }
         ensures reading { (on_shelf result).reading ≡ None }
         ensures writing { (on_shelf result).writing ≡ false }
+        ensures finished { (n : List ℕ) → (on_shelf result).finished n ≡ false }
     {
         Shelf {
             alloc,
             given,
             written: Vec::new(alloc),
             last: None,
-            writing: false,
+            finished: false,
+            open: false,
             reading: None,
             source: Bytes::new(alloc),
             taken: 0,
@@ -72,7 +95,7 @@ impl Shelf {
     {
         match held_last(&self.last, name) {
             Some(bytes) => Some(bytes),
-            None => match held_in(&self.written, name) {
+            None => match held_in_kept(&self.written, name) {
                 Some(bytes) => Some(bytes),
                 None => held_in(self.given.as_slice(), name),
             },
@@ -95,6 +118,7 @@ impl Shelf {
         ensures files { shelf_files self.new ≡ shelf_files self.old }
         ensures said { (on_shelf self.new).said ≡ (on_shelf self.old).said }
         ensures writing { SameWriting (on_shelf self.old) (on_shelf self.new) }
+        ensures marks { SameMarks (on_shelf self.old) (on_shelf self.new) }
     {
         self.reading = None;
         let mut source = Bytes::new(self.alloc);
@@ -143,27 +167,41 @@ impl Shelf {
             ≡ (name.now, []) ∷ shelf_files self.old) }
         ensures target { OnOk result ((on_shelf self.new).target ≡ name.now) }
         ensures err { OnErr result (shelf_files self.new ≡ shelf_files self.old) }
+        ensures kept_marks { OnErr result (SameMarks (on_shelf self.old) (on_shelf self.new)) }
+        ensures unmarked { OnOk result ((on_shelf self.new).finished name.now ≡ false) }
+        ensures marks { SameMarksBut name.now (on_shelf self.old) (on_shelf self.new) }
         ensures said { (on_shelf self.new).said ≡ (on_shelf self.old).said }
         ensures reading { SameReading (on_shelf self.old) (on_shelf self.new) }
         ensures left { (on_shelf self.new).left ≡ (on_shelf self.old).left }
     {
-        self.writing = false;
+        self.open = false;
         let kept = Name::of(self.alloc, name)?;
-        if let Some(last) = self.last.take() {
-            if let Err(refused) = self.written.insert(0, last) {
-                self.last = Some(refused.value);
+        if let Some(file) = self.last.take() {
+            let earlier = Kept {
+                file,
+                finished: self.finished,
+            };
+            if let Err(refused) = self.written.insert(0, earlier) {
+                self.last = Some(refused.value.file);
                 return Err(NoMemory);
             }
         }
         self.last = Some((kept, Bytes::new(self.alloc)));
-        self.writing = true;
+        self.finished = false;
+        self.open = true;
         Ok(())
     }
 
     pub fn stop_writing(&mut self)
-        ensures { self.new ≡ record self.old { writing = false } }
+        ensures { self.new ≡ record self.old { open = false } }
     {
-        self.writing = false;
+        self.open = false;
+    }
+
+    pub fn finish(&mut self)
+        ensures { self.new ≡ record self.old { finished = true } }
+    {
+        self.finished = true;
     }
 
     // Adds at most `most` bytes to the file that was started last.

@@ -1,7 +1,7 @@
 // Whole files, read and written over any desk.
 ghost use Rattle.std.specs.Prelude.{◌≡◌, ◌⊎◌, ◌+◌, ◌-◌, ◌^◌, ◌<◌, ◌≤◌, ◌++◌, ℕ, List, true, false, [], length, Some, None, IsSome, IfOk, OnOk, OnErr, IsErrOf};
-ghost use Rattle.gas_desk.specs.Outside.{CountsOn, Rose, SameBut, SameFiles, SameReading, SameWriting, WriteCause};
-ghost use Rattle.gas_desk.specs.Whole.{AddsFront, HoldsFrontOf, LongerThan, Takes, TookOf};
+ghost use Rattle.gas_desk.specs.Outside.{CountsOn, Rose, SameBut, SameFiles, SameReading, SameMarks, SameMarksBut, SameReads, SameWrites, SameWriting, WriteCause};
+ghost use Rattle.gas_desk.specs.Whole.{AddsFront, LongerThan, StoppedWithin, Takes, TookOf, Unstarted};
 ghost use Rattle.gas_desk.specs.Stops.{read_stop, write_stop};
 
 use crate::{Desk, DeskStop};
@@ -97,6 +97,10 @@ pub fn read_file<D: Desk>(
     ensures files { D.tells → SameFiles (D.outside desk.old) (D.outside desk.new) }
     ensures said { D.tells → (D.outside desk.new).said ≡ (D.outside desk.old).said }
     ensures writing { SameWriting (D.outside desk.old) (D.outside desk.new) }
+    ensures unread { D.counts_exactly → (IsErrOf result ReadStop.Failed → ⊥)
+        → SameReads (D.outside desk.old) (D.outside desk.new) }
+    ensures unwritten { D.counts_exactly → SameWrites (D.outside desk.old) (D.outside desk.new) }
+    ensures marks { D.tells → SameMarks (D.outside desk.old) (D.outside desk.new) }
     ensures counts { CountsOn (D.outside desk.old) (D.outside desk.new) }
 {
     desk.start_read(name)?;
@@ -121,6 +125,10 @@ fn read_rest<D: Desk>(alloc: Global, desk: &mut D, limit: u64) -> Result<Bytes, 
     ensures files { D.tells → SameFiles (D.outside desk.old) (D.outside desk.new) }
     ensures said { D.tells → (D.outside desk.new).said ≡ (D.outside desk.old).said }
     ensures writing { SameWriting (D.outside desk.old) (D.outside desk.new) }
+    ensures unread { D.counts_exactly → (IsErrOf result ReadStop.Failed → ⊥)
+        → SameReads (D.outside desk.old) (D.outside desk.new) }
+    ensures unwritten { D.counts_exactly → SameWrites (D.outside desk.old) (D.outside desk.new) }
+    ensures marks { D.tells → SameMarks (D.outside desk.old) (D.outside desk.new) }
     ensures counts { CountsOn (D.outside desk.old) (D.outside desk.new) }
 {
     let mut bytes = Bytes::new(alloc);
@@ -137,22 +145,28 @@ fn read_rest<D: Desk>(alloc: Global, desk: &mut D, limit: u64) -> Result<Bytes, 
     Err(ReadStop::TooLong { taken: limit + 1 })
 }
 
-/// Makes the named file hold these bytes.
+/// Makes the named file hold these bytes, and finishes it.
 ///
-/// After a stop it holds a front of them, or what it held before where the writing didn't start. No
+/// Where the writing didn't start, the file stands as it did before, and none is being written.
+/// After another stop it holds a front of the bytes, isn't finished, and is still being written. No
 /// other file changes, and nothing is said or counted but what the calls of the desk count.
 pub fn write_file<D: Desk>(desk: &mut D, name: &str, bytes: &[u8]) -> Result<(), WriteStop>
     ensures done { D.tells → OnOk result ((D.outside desk.new).files name.now ≡ Some bytes.now) }
     ensures finished { OnOk result ((D.outside desk.new).writing ≡ false) }
     ensures stopped { D.tells → OnErr result (
-        ((D.outside desk.new).files name.now ≡ (D.outside desk.old).files name.now)
-        ⊎ HoldsFrontOf name.now bytes.now (D.outside desk.new)) }
+        Unstarted name.now (D.outside desk.old) (D.outside desk.new)
+        ⊎ StoppedWithin name.now bytes.now (D.outside desk.new)) }
     ensures failed { IsErrOf result WriteStop.Failed
         → Rose (D.outside desk.old).write_faults (D.outside desk.new).write_faults }
     ensures others { D.tells → SameBut name.now (D.outside desk.old) (D.outside desk.new) }
     ensures said { D.tells → (D.outside desk.new).said ≡ (D.outside desk.old).said }
     ensures reading { SameReading (D.outside desk.old) (D.outside desk.new) }
     ensures left { D.tells → (D.outside desk.new).left ≡ (D.outside desk.old).left }
+    ensures unread { D.counts_exactly → SameReads (D.outside desk.old) (D.outside desk.new) }
+    ensures unwritten { D.counts_exactly → (IsErrOf result WriteStop.Failed → ⊥)
+        → SameWrites (D.outside desk.old) (D.outside desk.new) }
+    ensures marked { D.tells → OnOk result ((D.outside desk.new).finished name.now ≡ true) }
+    ensures marks { D.tells → SameMarksBut name.now (D.outside desk.old) (D.outside desk.new) }
     ensures counts { CountsOn (D.outside desk.old) (D.outside desk.new) }
 {
     desk.start_write(name)?;
@@ -175,6 +189,13 @@ fn write_all<D: Desk>(desk: &mut D, bytes: &[u8]) -> Result<(), DeskStop>
     ensures writing { SameWriting (D.outside desk.old) (D.outside desk.new) }
     ensures reading { SameReading (D.outside desk.old) (D.outside desk.new) }
     ensures left { D.tells → (D.outside desk.new).left ≡ (D.outside desk.old).left }
+    ensures unread { D.counts_exactly → SameReads (D.outside desk.old) (D.outside desk.new) }
+    ensures unwritten { D.counts_exactly → (IsErrOf result DeskStop.Failed → ⊥)
+        → SameWrites (D.outside desk.old) (D.outside desk.new) }
+    ensures unmarked { D.tells → (D.outside desk.old).finished (D.outside desk.old).target ≡ false
+        → (D.outside desk.new).finished (D.outside desk.old).target ≡ false }
+    ensures marks { D.tells
+        → SameMarksBut (D.outside desk.old).target (D.outside desk.old) (D.outside desk.new) }
     ensures counts { CountsOn (D.outside desk.old) (D.outside desk.new) }
     ensures cause { WriteCause (D.outside desk.old) (D.outside desk.new) result }
 {
