@@ -22,9 +22,9 @@ pub struct Shelf {
     given: List<(Name, Bytes)>,
     written: Vec<Kept>,
     last: Option<(Name, Bytes)>,
-    // Whether the last file is finished, and whether no later start has stopped.
+    // Whether the last start went well, and whether that file is finished.
+    started: bool,
     finished: bool,
-    open: bool,
     // The name of the file being read, all that it held at its start, and how much was taken.
     reading: Option<Name>,
     source: Bytes,
@@ -80,8 +80,8 @@ impl Shelf {
             given,
             written: Vec::new(alloc),
             last: None,
+            started: false,
             finished: false,
-            open: false,
             reading: None,
             source: Bytes::new(alloc),
             taken: 0,
@@ -174,7 +174,7 @@ impl Shelf {
         ensures reading { SameReading (on_shelf self.old) (on_shelf self.new) }
         ensures left { (on_shelf self.new).left ≡ (on_shelf self.old).left }
     {
-        self.open = false;
+        self.started = false;
         let kept = Name::of(self.alloc, name)?;
         if let Some(file) = self.last.take() {
             let earlier = Kept {
@@ -188,14 +188,14 @@ impl Shelf {
         }
         self.last = Some((kept, Bytes::new(self.alloc)));
         self.finished = false;
-        self.open = true;
+        self.started = true;
         Ok(())
     }
 
     pub fn stop_writing(&mut self)
-        ensures { self.new ≡ record self.old { open = false } }
+        ensures { self.new ≡ record self.old { started = false } }
     {
-        self.open = false;
+        self.started = false;
     }
 
     pub fn finish(&mut self)
