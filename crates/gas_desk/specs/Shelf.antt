@@ -1,6 +1,6 @@
 -- Files in memory, as what stands outside.
 use Rattle.std.specs.Prelude.{◌≡◌, ℕ, Bool, false, not, ◌&&◌, List, [], ◌∷◌, ◌++◌, drop, map, Option, None, Some, is_some, if◌then◌else◌}
-use Rattle.std.specs.Option.{option_to_list}
+use Rattle.std.specs.Option.{option_map, option_to_list}
 use Rattle.std.specs.Str.{bytes_eq}
 use Rattle.gas_desk.specs.Outside.{Outside}
 use Rattle.gas_desk.specs.declared.shelf.Kept.{Kept}
@@ -20,14 +20,13 @@ kept_finished (kept ∷ more) name = if bytes_eq kept.file.0 name then kept.fini
 abbrev pub kept_files : List Kept → List (List ℕ × List ℕ)
 kept_files kept = map (λ k. k.file) kept
 
--- the files, the one that was started last before all others
-abbrev pub shelf_files : Shelf → List (List ℕ × List ℕ)
-shelf_files s = option_to_list s.last ++ kept_files s.written.items ++ s.given
+-- the files that were started, from the latest on
+abbrev pub started_files : Shelf → List Kept
+started_files s = option_to_list (option_map (λ file. record { file = file; finished = s.finished }) s.last) ++ s.written.items
 
--- whether a file is finished: the one that was started last, or one before it
-abbrev pub is_finished : Option (List ℕ × List ℕ) → Bool → List Kept → List ℕ → Bool
-is_finished None finished written name = kept_finished written name
-is_finished (Some file) finished written name = if bytes_eq file.0 name then finished else kept_finished written name
+-- all files, of which the first of a name counts
+abbrev pub shelf_files : Shelf → List (List ℕ × List ℕ)
+shelf_files s = kept_files (started_files s) ++ s.given
 
 -- the name of the file that was started last
 abbrev pub last_name : Option (List ℕ × List ℕ) → List ℕ
@@ -43,7 +42,7 @@ on_shelf s = record {
   said = s.said;
   reading = s.reading;
   writing = s.started && not s.finished && is_some s.last;
-  finished = is_finished s.last s.finished s.written.items;
+  finished = kept_finished (started_files s);
   read_faults = λ _. 0;
   write_faults = 0;
 }

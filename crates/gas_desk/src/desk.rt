@@ -38,8 +38,8 @@ pub trait Desk {
     /// That the contents are told.
     ghost tells: { Type 0 };
 
-    /// That counts are exact: a call that reads moves no count of writing, a call that writes or says
-    /// none of reading, and a call that doesn't answer `Failed` moves none.
+    /// That counts are exact: a call that reads moves no count of writing, a call that writes or
+    /// says none of reading, and a call that doesn't answer `Failed` moves none.
     ghost counts_exactly: { Type 0 };
 
     /// What stands outside.
@@ -91,7 +91,8 @@ pub trait Desk {
         ensures target { tells → OnOk result ((outside self.new).target ≡ name.now) }
         ensures empty { tells → OnOk result ((outside self.new).files name.now ≡ Some []) }
         ensures kept { tells → OnErr result (SameFiles (outside self.old) (outside self.new)) }
-        ensures kept_marks { tells → OnErr result (SameMarks (outside self.old) (outside self.new)) }
+        ensures kept_marks { tells
+            → OnErr result (SameMarks (outside self.old) (outside self.new)) }
         ensures others { tells → SameBut name.now (outside self.old) (outside self.new) }
         ensures said { tells → (outside self.new).said ≡ (outside self.old).said }
         ensures reading { SameReading (outside self.old) (outside self.new) }
@@ -122,7 +123,8 @@ pub trait Desk {
         ensures unwritten { counts_exactly → (IsErrOf result DeskStop.Failed → ⊥)
             → SameWrites (outside self.old) (outside self.new) }
         ensures unmarked { tells → (outside self.new).finished (outside self.old).target ≡ false }
-        ensures marks { tells → SameMarksBut (outside self.old).target (outside self.old) (outside self.new) }
+        ensures marks { tells
+            → SameMarksBut (outside self.old).target (outside self.old) (outside self.new) }
         ensures counts { CountsOn (outside self.old) (outside self.new) }
         ensures cause { WriteCause (outside self.old) (outside self.new) result }
         ensures beyond { beyond writes self.old self.new result };
@@ -139,9 +141,12 @@ pub trait Desk {
         ensures unread { counts_exactly → SameReads (outside self.old) (outside self.new) }
         ensures unwritten { counts_exactly → (IsErrOf result DeskStop.Failed → ⊥)
             → SameWrites (outside self.old) (outside self.new) }
-        ensures marked { tells → OnOk result ((outside self.new).finished (outside self.old).target ≡ true) }
-        ensures unmarked { tells → OnErr result ((outside self.new).finished (outside self.old).target ≡ false) }
-        ensures marks { tells → SameMarksBut (outside self.old).target (outside self.old) (outside self.new) }
+        ensures marked { tells
+            → OnOk result ((outside self.new).finished (outside self.old).target ≡ true) }
+        ensures unmarked { tells
+            → OnErr result ((outside self.new).finished (outside self.old).target ≡ false) }
+        ensures marks { tells
+            → SameMarksBut (outside self.old).target (outside self.old) (outside self.new) }
         ensures counts { CountsOn (outside self.old) (outside self.new) }
         ensures cause { WriteCause (outside self.old) (outside self.new) result }
         ensures beyond { beyond finishes self.old self.new (moving_none result) };

@@ -31,8 +31,8 @@ impl MemDesk {
     ghost use Rattle.gas_desk.specs.Memory.{in_memory, call_number, failing_calls, most_read, most_written, fails_now};
 
     /// Begins with these files, of those with one name the first alone, and nothing said, read,
-    /// written or counted. The calls with the numbers in `fails` fail. One call reads at most
-    /// `read_most` bytes, and writes at most `write_most`.
+    /// written, finished or counted. The calls with the numbers in `fails` fail. One call reads at
+    /// most `read_most` bytes, and writes at most `write_most`.
     pub fn new(
         alloc: Global,
         files: List<(Name, Bytes)>,
@@ -46,7 +46,8 @@ impl MemDesk {
         ensures said { IfOk result (λ desk. (in_memory desk).said ≡ []) }
         ensures reading { IfOk result (λ desk. (in_memory desk).reading ≡ None) }
         ensures writing { IfOk result (λ desk. (in_memory desk).writing ≡ false) }
-        ensures finished { IfOk result (λ desk. (n : List ℕ) → (in_memory desk).finished n ≡ false) }
+        ensures finished { IfOk result (λ desk.
+            (n : List ℕ) → (in_memory desk).finished n ≡ false) }
         ensures read_faults { IfOk result (λ desk.
             (n : List ℕ) → (in_memory desk).read_faults n ≡ 0) }
         ensures write_faults { IfOk result (λ desk. (in_memory desk).write_faults ≡ 0) }

@@ -24,7 +24,8 @@ impl NeverFails {
         ensures said { IfOk result (λ desk. (never_failing desk).said ≡ []) }
         ensures reading { IfOk result (λ desk. (never_failing desk).reading ≡ None) }
         ensures writing { IfOk result (λ desk. (never_failing desk).writing ≡ false) }
-        ensures finished { IfOk result (λ desk. (n : List ℕ) → (never_failing desk).finished n ≡ false) }
+        ensures finished { IfOk result (λ desk.
+            (n : List ℕ) → (never_failing desk).finished n ≡ false) }
         ensures read_faults { IfOk result (λ desk.
             (n : List ℕ) → (never_failing desk).read_faults n ≡ 0) }
         ensures write_faults { IfOk result (λ desk. (never_failing desk).write_faults ≡ 0) }
