@@ -1,9 +1,10 @@
 -- Rounding of decimals to the grid.
-use Rattle.std.proofs.Common.{◌≡◌, ℕ, ◌+◌, ◌*◌, ◌/◌, ◌%◌, ◌^◌, ◌<◌, ◌≤◌, Bool, true, false, not, ◌&&◌, cond, refl, ap, subst, ◌∙◌, arith, ℤ, pos, negsuc, neg_ℤ, ◌+ℤ◌, ◌*ℤ◌, ◌≤ℤ◌, ◌<ℤ◌, mul-le-mul_left}
+use Rattle.std.proofs.Common.{◌≡◌, ℕ, ◌+◌, ◌*◌, ◌/◌, ◌%◌, ◌^◌, ◌<◌, ◌≤◌, Bool, true, false, not, ◌&&◌, cond, refl, sym, ap, subst, ◌∙◌, ◌⊎◌, inl, inr, arith, ℤ, pos, negsuc, neg_ℤ, ◌+ℤ◌, ◌*ℤ◌, ◌≤ℤ◌, ◌<ℤ◌, mul-le-mul_left}
 use Rattle.std.specs.Prelude.{◌==◌}
+use Rattle.std.specs.Int.{int_div_euclid, int_rem_euclid}
 use Rattle.std.proofs.lemmas.Int.{ints}
 use Rattle.std.proofs.lemmas.Bool.{eqb-true, eqb-false}
-use Rattle.integer_laws.proofs.Ring.{linear, add_mul, neg_mul, one_mul, lt_of_mul_left, mul_comm, mul_one}
+use Rattle.integer_laws.proofs.Ring.{linear, add_mul, neg_mul, one_mul, lt_of_mul_left, mul_comm, mul_one, le_or_lt}
 use Rattle.gas_units.specs.Rounds.{IsFloor, IsCeiling}
 use Rattle.gas_units.specs.declared.grid.Side.{Side}
 use Rattle.gas_units.specs.declared.grid.Side.TheVariants.{Down, Up}
@@ -12,8 +13,9 @@ use Rattle.gas_units.specs.Decimals.{signed}
 use Rattle.gas_units.specs.declared.decimal.Decimal.{Decimal}
 use Rattle.gas_units.specs.declared.grid.Unit.{Unit}
 use Rattle.gas_units.specs.declared.grid.Unit.TheVariants.{Bar, Barg, Pa, KiloCube, Cube}
-use Rattle.gas_units.specs.Grid.{IsSize, Rounds, signed_size, is_away, up_part, down_part, place, den, num, unit_offset, IsPast, IsGrid, IsWithin}
+use Rattle.gas_units.specs.Grid.{IsSize, Rounds, signed_size, is_away, up_part, down_part, place, den, num, unit_offset, IsPast, IsGrid, IsWithin, IsFar, grid_value, GridValueRounds}
 use Rattle.gas_units.proofs.Sizes.{pow_most}
+use Rattle.gas_units.proofs.Quotients.{euclid_divides, floor_is}
 
 pub divided : (n d : ℕ) → 0 < d → n / d < 10 ^ 38 → IsSize n d (record { whole = n / d; is_exact = (n % d) == 0 })
 divided n d some small = record {
@@ -162,3 +164,52 @@ grid_is v u side s h = rounded (v.digits * 10 ^ up_part (place v u)) (den v u) (
 
 pub only_grid : (v : Decimal) (u : Unit) (side : Side) (p q : ℤ) → IsGrid side v u p → IsGrid side v u q → p ≡ q
 only_grid v u side p q f g = one_rounding side (num v u) (den v u) p q (den_some (place v u)) f g
+
+-- ---- the whole value as a quotient
+quotient_down : (n d : ℤ) → pos 1 ≤ℤ d → IsFloor n d (int_div_euclid n d)
+quotient_down n d some = floor_is n d (int_div_euclid n d) (int_rem_euclid n d) (euclid_divides n d some)
+
+turned : (n d q : ℤ) → IsFloor (neg_ℤ n) d q → IsCeiling n d (neg_ℤ q)
+turned n d q f = record { at_least = omega (arith, linear, f.at_most, neg_mul q d); least = omega (arith, linear, f.greatest, neg_mul q d) }
+
+pub value_is_grid : (side : Side) (v : Decimal) (u : Unit) → IsGrid side v u (grid_value side v u)
+unfolding grid_value
+value_is_grid Down v u = quotient_down (num v u) (pos (den v u)) (let h = den_some (place v u) in omega (arith, linear, h))
+value_is_grid Up v u = turned (num v u) (pos (den v u)) _ (quotient_down (neg_ℤ (num v u)) (pos (den v u)) (let h = den_some (place v u) in omega (arith, linear, h)))
+
+pub grid_is_value : (side : Side) (v : Decimal) (u : Unit) (q : ℤ) → IsGrid side v u q → q ≡ grid_value side v u
+grid_is_value side v u q g = only_grid v u side q (grid_value side v u) g (value_is_grid side v u)
+
+pub grid_value_rounds : GridValueRounds
+grid_value_rounds side v u q = (grid_is_value side v u q, λ e. subst (IsGrid side v u) (sym e) (value_is_grid side v u))
+
+-- ---- values past the limits
+far_one : (negative : Bool) (side : Side) (n o : ℕ) (q : ℤ) → 10 ^ 19 ≤ n → o ≤ 101325 → Rounds side (signed negative n +ℤ pos (o * 1)) 1 q → IsFar negative q
+far_one true Down n o q far few g = omega (arith, linear, far, few, g.at_most, g.greatest, mul_one q)
+far_one true Up n o q far few g = omega (arith, linear, far, few, g.at_least, g.least, mul_one q)
+far_one false Down n o q far few g = omega (arith, linear, far, few, g.at_most, g.greatest, mul_one q)
+far_one false Up n o q far few g = omega (arith, linear, far, few, g.at_least, g.least, mul_one q)
+
+pub past_is_far : (v : Decimal) (u : Unit) (side : Side) → IsPast v u → IsFar v.negative (grid_value side v u)
+past_is_far v u side p =
+    far_one v.negative side (v.digits * 10 ^ up_part (place v u)) (unit_offset u) (grid_value side v u) p.0 (offset_few u)
+    (subst (λ (k : ℕ). Rounds side (signed v.negative (v.digits * 10 ^ up_part (place v u)) +ℤ pos (unit_offset u * 10 ^ k)) (10 ^ k) (grid_value side v u)) p.1 (value_is_grid side v u))
+
+far_size : (negative : Bool) (n o : ℕ) → o ≤ 101325 → (IsWithin (signed negative n +ℤ pos o) → ⊥) → IsFar negative (signed negative n +ℤ pos o)
+far_size true n o few out = by (le_or_lt (negsuc 999999999999999999) (neg_ℤ (pos n) +ℤ pos o))
+  where
+    by : ((negsuc 999999999999999999 ≤ℤ (neg_ℤ (pos n) +ℤ pos o)) ⊎ ((neg_ℤ (pos n) +ℤ pos o) <ℤ negsuc 999999999999999999)) → (neg_ℤ (pos n) +ℤ pos o) <ℤ negsuc 999999999999999999
+    by (inl h) = absurd (out (h, omega (arith, linear, few)))
+    by (inr h) = h
+far_size false n o few out = by (le_or_lt (pos n +ℤ pos o) (pos 1000000000000000000))
+  where
+    by : (((pos n +ℤ pos o) ≤ℤ pos 1000000000000000000) ⊎ (pos 1000000000000000000 <ℤ (pos n +ℤ pos o))) → pos 1000000000000000000 <ℤ (pos n +ℤ pos o)
+    by (inl h) = absurd (out (omega (arith, linear), h))
+    by (inr h) = h
+
+-- a size, rounded and with its offset, that isn't within the limits
+pub size_is_far : (v : Decimal) (u : Unit) (side : Side) (s : Size) (z : ℤ) → IsSize (v.digits * 10 ^ up_part (place v u)) (den v u) s → z ≡ signed_size v.negative side s +ℤ pos (unit_offset u)
+    → (IsWithin z → ⊥) → IsFar v.negative (grid_value side v u)
+size_is_far v u side s z h e out =
+    subst (IsFar v.negative) (grid_is_value side v u _ (grid_is v u side s h))
+    (far_size v.negative (cond (not s.is_exact && is_away v.negative side) (s.whole + 1) s.whole) (unit_offset u) (offset_few u) (λ w. out (subst IsWithin (sym e) w)))

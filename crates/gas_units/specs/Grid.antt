@@ -1,5 +1,6 @@
 -- The whole grid values next to a decimal in a unit, as fractions over a power of ten.
-use Rattle.std.specs.Prelude.{◌≡◌, ℕ, suc, ◌+◌, ◌*◌, ◌^◌, ◌≤◌, ◌<◌, not, ◌&&◌, List, Bool, true, false, if◌then◌else◌, Option, Some, None, ℤ, pos, negsuc, ◌+ℤ◌, ◌≤ℤ◌, codes}
+use Rattle.std.specs.Prelude.{◌≡◌, ℕ, suc, ◌+◌, ◌*◌, ◌^◌, ◌≤◌, ◌<◌, ◌↔◌, not, ◌&&◌, List, Bool, true, false, if◌then◌else◌, Option, Some, None, ℤ, pos, negsuc, neg_ℤ, ◌+ℤ◌, ◌≤ℤ◌, ◌<ℤ◌, codes}
+use Rattle.std.specs.Int.{int_div_euclid}
 use Rattle.std.specs.Str.{bytes_eq}
 use Rattle.gas_units.specs.Rounds.{IsFloor, IsCeiling}
 use Rattle.gas_units.specs.declared.decimal.Decimal.{Decimal}
@@ -66,6 +67,20 @@ IsWithin q = (negsuc 999999999999999999 ≤ℤ q) × (q ≤ℤ pos 1000000000000
 -- the whole value on that side lies outside the limits
 abbrev pub HasNoGrid : Side → Decimal → Unit → Type 0
 HasNoGrid side v u = (q : ℤ) → IsGrid side v u q → IsWithin q → ⊥
+
+-- the whole value on a side, by a quotient
+unfoldable pub grid_value : Side → Decimal → Unit → ℤ
+grid_value Down v u = int_div_euclid (num v u) (pos (den v u))
+grid_value Up v u = neg_ℤ (int_div_euclid (neg_ℤ (num v u)) (pos (den v u)))
+
+-- it is the one whole number that rounds to that side
+abbrev pub GridValueRounds : Type 0
+GridValueRounds = (side : Side) (v : Decimal) (u : Unit) (q : ℤ) → IsGrid side v u q ↔ (q ≡ grid_value side v u)
+
+-- past the limits, on the side of the decimal's sign
+abbrev pub IsFar : Bool → ℤ → Type 0
+IsFar true q = q <ℤ negsuc 999999999999999999
+IsFar false q = pos 1000000000000000000 <ℤ q
 
 -- the whole part of n / d, and whether nothing is left
 pub record IsSize (n d : ℕ) (s : Size) : Type 0 where

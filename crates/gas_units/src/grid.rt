@@ -1,5 +1,5 @@
-ghost use Rattle.std.specs.Prelude.{◌≡◌, ◌≤◌, ◌<◌, ◌+◌, ◌*◌, ◌^◌, ◌↔◌, ℕ, ℤ, pos, negsuc, ◌≤ℤ◌, ◌+ℤ◌, true, IsTrue, MatchOption, MatchResult};
-ghost use Rattle.gas_units.specs.Grid.{read_unit, unit_power, unit_offset, place, up_part, down_part, IsSize, is_away, Rounds, signed_size, num, den, IsWithin, IsGrid, HasNoGrid, IsPast};
+ghost use Rattle.std.specs.Prelude.{◌≡◌, ◌≤◌, ◌<◌, ◌+◌, ◌*◌, ◌^◌, ◌↔◌, ℕ, ℤ, pos, negsuc, ◌≤ℤ◌, ◌+ℤ◌, true, IsTrue, MatchOption, MatchResult, IfOk, OnErr};
+ghost use Rattle.gas_units.specs.Grid.{read_unit, unit_power, unit_offset, place, up_part, down_part, IsSize, is_away, Rounds, signed_size, num, den, IsWithin, IsGrid, HasNoGrid, IsPast, IsFar, grid_value, GridValueRounds};
 ghost use Rattle.gas_units.specs.declared.decimal.NumFault.TheVariants as fault;
 
 use crate::decimal::{Decimal, NumFault};
@@ -193,11 +193,13 @@ fn is_within(grid: i128) -> bool
 /// The whole number of Pa or l/h next to a value in a unit, on a side.
 ///
 /// A value that is whole is itself on both sides. `TooLarge` comes exactly where that whole number
-/// lies outside -10^18 to 10^18.
+/// lies outside -10^18 to 10^18: below them for a negative value, above them for any other.
 pub fn to_grid(value: &Decimal, unit: Unit, side: Side) -> Result<i128, NumFault>
-    ensures { MatchResult result
+    ensures grid { MatchResult result
         (λ q. IsGrid side value.now unit q × IsWithin q)
         (λ e. (e ≡ fault.TooLarge) × HasNoGrid side value.now unit) }
+    ensures value { IfOk result (λ q. q ≡ grid_value side value.now unit) }
+    ensures far { OnErr result (IsFar value.now.negative (grid_value side value.now unit)) }
 {
     let Some(size) = size_in(value, unit) else {
         return Err(NumFault::TooLarge);
@@ -208,3 +210,9 @@ pub fn to_grid(value: &Decimal, unit: Unit, side: Side) -> Result<i128, NumFault
     }
     Ok(grid)
 }
+
+/// The whole value on a side is the one whole number that rounds to that side.
+#[tactic(auto, using(crate::proofs::Rounding::grid_value_rounds))]
+pub fn grid_value_rounds()
+    ensures { GridValueRounds }
+{}

@@ -8,7 +8,7 @@ mod grid;
 mod whole;
 
 pub use decimal::{Decimal, NumFault, faults_are_first, form_is_decimal, read_decimal};
-pub use grid::{Side, Unit, read_unit, to_grid};
+pub use grid::{Side, Unit, grid_value_rounds, read_unit, to_grid};
 pub use whole::{ceil_div, floor_div, root_down, root_up};
 
 #[cfg(test)]
