@@ -1,23 +1,21 @@
 -- What a field's text reads as, and which text reads as a field.
-use Rattle.std.proofs.Common.{◌≡◌, ◌<◌, ◌≤◌, ◌^◌, ℕ, suc, List, [], ◌∷◌, ◌++◌, length, take, drop, take-append-drop, Bool, true, false, cond, not, ◌&&◌, Option, Some, None, ℤ, pos, negsuc, refl, sym, ap, ◌∙◌, arith, inl, inr}
-use Rattle.std.specs.Prelude.{◌==◌, nat_le, FitsSigned}
+use Rattle.std.proofs.Common.{◌≡◌, ◌<◌, ◌≤◌, ℕ, suc, List, [], ◌∷◌, ◌++◌, length, take, drop, take-append-drop, Bool, true, false, cond, not, ◌&&◌, Option, Some, None, ℤ, pos, negsuc, refl, sym, ap, ◌∙◌, arith, inl, inr}
+use Rattle.std.specs.Prelude.{◌==◌, nat_le}
 use Rattle.std.specs.List.{list_all}
 use Rattle.std.specs.Char.{is_ascii_digit}
-use Rattle.std.specs.Fmt.{decimal, signed_decimal}
-use Rattle.std.specs.Int.{w64}
-use Rattle.std.specs.Str.{is_utf8}
+use Rattle.std.specs.Int.{w64, saturate_signed}
+use Rattle.std.specs.Str.{is_utf8, IsAscii}
 use Rattle.std.proofs.lemmas.Bool.{eqb-true, ne_eqb}
 use Rattle.std.proofs.lemmas.Bool.Decides.{leb_tells, nat_tests}
-use Rattle.std.proofs.lemmas.Fmt.{IsAscii-signed}
-use Rattle.std.proofs.lemmas.Int.{ints}
+use Rattle.std.proofs.lemmas.Fmt.{IsAscii-from_digits}
 use Rattle.std.proofs.lemmas.List.{take_at, drop_at}
 use Rattle.std.proofs.lemmas.Str.{IsUtf8-from_ascii, is_utf8-from_IsUtf8}
-use lib.Signed.{mag}
+use Rattle.std.proofs.lemmas.Str.Ascii.{IsAscii-cons}
 use Rattle.line_text.specs.Lines.{HasNoFeed}
-use Rattle.line_text.specs.Numerals.{number_at, IsWithin}
+use Rattle.line_text.specs.Numerals.{numeral, signed_numeral, integer, number_at}
 use Rattle.line_text.specs.Words.{◌>>=◌, word_len, field_at, number_field}
-use Rattle.line_text.proofs.Decimals.{decimal_form}
-use Rattle.line_text.proofs.Numbers.{number_again, number_takes, bound}
+use Rattle.line_text.proofs.Decimals.{own, numeral_form}
+use Rattle.line_text.proofs.Numbers.{integer_again, integer_takes, bound, mapped}
 
 -- no byte is a space, or one below it, as a line feed
 abbrev pub IsVisible : List ℕ → Type 0
@@ -89,31 +87,41 @@ digits_visible (d ∷ ds) e =
     let high : nat_le 33 d ≡ true = grind (arith, nat_tests, le) in
     rw high (digits_visible ds p.1)
 
-pub number_visible : (z : ℤ) → FitsSigned w64 z → IsVisible (signed_decimal z)
-number_visible (pos n) fits = digits_visible (decimal n) (decimal_form n (omega (arith, ints))).0
-number_visible (negsuc n) fits = digits_visible (decimal (suc n)) (decimal_form (suc n) (omega (arith, ints))).0
+pub numeral_visible : (n : ℕ) → IsVisible (numeral n)
+numeral_visible n = digits_visible (numeral n) (numeral_form n).0
 
-number_some : (z : ℤ) → FitsSigned w64 z → 0 < length (signed_decimal z)
-number_some (pos n) fits = (decimal_form n (omega (arith, ints))).1
-number_some (negsuc n) fits = omega arith
+pub signed_visible : (z : ℤ) → IsVisible (signed_numeral z)
+signed_visible (pos n) = numeral_visible n
+signed_visible (negsuc n) = numeral_visible (suc n)
 
-small : (z : ℤ) → FitsSigned w64 z → mag z < 2 ^ 63
-small (pos n) fits = omega (arith, ints)
-small (negsuc n) fits = omega (arith, ints)
+pub numeral_ascii : (n : ℕ) → IsAscii (numeral n)
+numeral_ascii n = IsAscii-from_digits (numeral n) (own.to (numeral n) (numeral_form n).0)
 
-pub number_field_again : (z : ℤ) (rest : List ℕ) → FitsSigned w64 z → word_len rest ≡ 0 → number_field (32 ∷ (signed_decimal z ++ rest)) ≡ Some (z, rest)
+signed_ascii : (z : ℤ) → IsAscii (signed_numeral z)
+signed_ascii (pos n) = numeral_ascii n
+signed_ascii (negsuc n) = IsAscii-cons 45 (numeral (suc n)) (omega arith) (numeral_ascii (suc n))
+
+signed_some : (z : ℤ) → 0 < length (signed_numeral z)
+signed_some (pos n) = (numeral_form n).1
+signed_some (negsuc n) = omega arith
+
+pub signed_field_again : (z : ℤ) (rest : List ℕ) → word_len rest ≡ 0 → field_at (32 ∷ (signed_numeral z ++ rest)) ≡ Some (signed_numeral z, rest)
+signed_field_again z rest h = field_again (signed_numeral z) rest (signed_visible z) (signed_some z) (is_utf8-from_IsUtf8 _ (IsUtf8-from_ascii _ (signed_ascii z))) h
+
+pub number_field_again : (z : ℤ) (rest : List ℕ) → word_len rest ≡ 0 → number_field (32 ∷ (signed_numeral z ++ rest)) ≡ Some (saturate_signed w64 z, rest)
 unfolding number_field
-number_field_again z rest fits h =
-    let text : is_utf8 (signed_decimal z) ≡ true = is_utf8-from_IsUtf8 _ (IsUtf8-from_ascii _ (IsAscii-signed z (small z fits))) in
-    rw (field_again (signed_decimal z) rest (number_visible z fits) (number_some z fits) text h, number_again z fits) refl
+number_field_again z rest h = rw (signed_field_again z rest h, integer_again z) refl
 
-pub number_field_takes : (bytes : List ℕ) (z : ℤ) (rest : List ℕ) → number_field bytes ≡ Some (z, rest) → IsWithin z → bytes ≡ 32 ∷ (signed_decimal z ++ rest)
+pub number_field_takes : (bytes : List ℕ) (y : ℤ) (rest : List ℕ) → number_field bytes ≡ Some (y, rest) → (z : ℤ) × (bytes ≡ 32 ∷ (signed_numeral z ++ rest)) × (y ≡ saturate_signed w64 z)
 unfolding number_field
-number_field_takes bytes z rest e within =
-    let f = bound (λ f. number_at f.0 >>= λ n. Some (n, f.1)) (field_at bytes) (z, rest) e in
-    let n = bound (λ n. Some (n, f.0.1)) (number_at f.0.0) (z, rest) f.2 in
-    let same : (n.0, f.0.1) ≡ (z, rest) = let h = n.2 in cc in
-    let value : n.0 ≡ z = ap (λ (x : ℤ × List ℕ). x.0) same in
+number_field_takes bytes y rest e =
+    let f = bound (λ f. number_at f.0 >>= λ n. Some (n, f.1)) (field_at bytes) (y, rest) e in
+    let n = bound (λ n. Some (n, f.0.1)) (number_at f.0.0) (y, rest) f.2 in
+    let same : (n.0, f.0.1) ≡ (y, rest) = let h = n.2 in cc in
+    let value : n.0 ≡ y = ap (λ (x : ℤ × List ℕ). x.0) same in
     let behind : f.0.1 ≡ rest = ap (λ (x : ℤ × List ℕ). x.1) same in
-    field_takes bytes f.0.0 f.0.1 f.1 ∙ ap (λ (x : List ℕ). 32 ∷ (f.0.0 ++ x)) behind
-    ∙ ap (λ (x : List ℕ). 32 ∷ (x ++ rest)) (number_takes f.0.0 z (n.1 ∙ ap (λ x. Some x) value) within)
+    let z = mapped (saturate_signed w64) (integer f.0.0) n.0 n.1 in (
+      z.0,
+      field_takes bytes f.0.0 f.0.1 f.1 ∙ ap (λ (x : List ℕ). 32 ∷ (f.0.0 ++ x)) behind ∙ ap (λ (x : List ℕ). 32 ∷ (x ++ rest)) (integer_takes f.0.0 z.0 z.1),
+      sym value ∙ sym z.2,
+    )

@@ -1,21 +1,19 @@
 -- Positions of 32 bits and numbers of 128 bits: what a text reads as, and which text reads as them.
-use Rattle.std.proofs.Common.{◌≡◌, ◌≢◌, ◌<◌, ◌≤◌, ◌^◌, ◌-◌, ◌+◌, ◌&&◌, ◌||◌, inl, inr, ℕ, suc, zero, List, [], ◌∷◌, length, drop, get_or, Bool, true, false, cond, not, Option, Some, None, Result, Ok, Err, ℤ, pos, negsuc, refl, sym, ap, subst, ◌∙◌, arith, nat_lt}
-use Rattle.std.specs.Prelude.{option_map, option_and_then, ◌==◌, FitsSigned, IfSome, int_le}
+use Rattle.std.proofs.Common.{◌≡◌, ◌≢◌, ◌<◌, ◌≤◌, ◌^◌, ℕ, suc, zero, List, [], ◌∷◌, length, get_or, Bool, true, false, cond, Option, Some, None, Result, Ok, Err, ℤ, pos, negsuc, refl, sym, ap, subst, ◌∙◌, arith}
+use Rattle.std.specs.Prelude.{option_map, option_and_then, ◌==◌, FitsSigned}
 use Rattle.std.specs.List.{list_all}
 use Rattle.std.specs.Result.{OkIff, result_ok}
 use Rattle.std.specs.Char.{is_ascii_digit}
-use Rattle.std.specs.Fmt.{decimal, signed_decimal}
 use Rattle.std.specs.Int.{w64, w128, saturate_signed}
 use Rattle.std.specs.Str.Parse.{digits_value, ParsesSigned}
-use Rattle.std.proofs.lemmas.Bool.{eqb-true, eqb-false, ne_eqb, cases_lt}
+use Rattle.std.proofs.lemmas.Bool.{eqb-true, eqb-false}
 use Rattle.std.proofs.lemmas.Bool.Decides.{nat_tests}
 use Rattle.std.proofs.lemmas.Int.{ints}
 use Rattle.std.proofs.lemmas.Str.Parse.{parse_signed_digits, parse_signed_minus}
-use lib.Signed.{mag}
 use Rattle.line_text.specs.Numerals.{is_numeral, natural, minus, integer, number_at}
-use Rattle.line_text.specs.Long.{fits_position, fits_long, fitting, position_at, long_at}
+use Rattle.line_text.specs.Long.{fits_long, fitting, long_at}
 use Rattle.line_text.proofs.Decimals.{own}
-use Rattle.line_text.proofs.Numbers.{sized, untests, mapped, bound, unsigned, natural_again, natural_takes, integer_again, integer_takes}
+use Rattle.line_text.proofs.Numbers.{sized, untests, mapped, bound}
 
 -- ---- what fits
 
@@ -111,43 +109,3 @@ long_read word y r e h = let z = some_integer word y e in ap Some (parsed word z
 
 pub long_gone : (word : List ℕ) → number_at word ≡ None → None ≡ long_at word
 long_gone word e = ap (option_map (fitting fits_long)) (sym (none_integer word e))
-
--- ---- what reading answers, as laws
-
-size_of_fit : (z : ℤ) → FitsSigned w128 z → mag z + 1 < 10 ^ 64
-size_of_fit (pos n) fits = omega (arith, ints)
-size_of_fit (negsuc n) fits = omega (arith, ints)
-
-pub long_again : (z : ℤ) → FitsSigned w128 z → long_at (signed_decimal z) ≡ Some (Some z)
-long_again z fits = ap (option_map (fitting fits_long)) (integer_again z (size_of_fit z fits)) ∙ (let f = fits_from z fits in rw f refl)
-
-pub long_takes : (word : List ℕ) (z : ℤ) → long_at word ≡ Some (Some z) → (word ≡ signed_decimal z) × FitsSigned w128 z
-long_takes word z e =
-    let m = mapped (fitting fits_long) (integer word) (Some z) e in
-    let f = fitted fits_long m.0 z m.2 in
-    let fits = from_fits m.0 f.0 in
-    (integer_takes word m.0 m.1 (size_of_fit m.0 fits) ∙ ap signed_decimal f.1, subst (FitsSigned w128) f.1 fits)
-
-pub long_spelled : (word : List ℕ) (r : Option (Option ℤ)) → r ≡ long_at word → (z : ℤ) → FitsSigned w128 z → word ≡ signed_decimal z → r ≡ Some (Some z)
-long_spelled word r exact z fits e = exact ∙ ap long_at e ∙ long_again z fits
-
-pub long_was : (word : List ℕ) (r : Option (Option ℤ)) → r ≡ long_at word → IfSome r (λ o. IfSome o (λ z. word ≡ signed_decimal z))
-long_was word None exact = tt
-long_was word (Some None) exact = tt
-long_was word (Some (Some z)) exact = (long_takes word z (sym exact)).0
-
--- ---- positions
-
-pub position_again : (n : ℕ) → n < 2 ^ 32 → position_at (decimal n) ≡ Some (Some n)
-position_again n small =
-    let fits : fits_position n ≡ true = grind (arith, nat_tests) in
-    ap (option_map (fitting fits_position)) (natural_again n (omega (arith, small))) ∙ rw fits refl
-
-pub position_takes : (word : List ℕ) (n : ℕ) → position_at word ≡ Some (Some n) → (word ≡ decimal n) × (n < 2 ^ 32)
-position_takes word n e =
-    let m = mapped (fitting fits_position) (natural word) (Some n) e in
-    let f = fitted fits_position m.0 n m.2 in
-    let same = f.1 in
-    let fits = f.0 in
-    let small : n < 2 ^ 32 = grind (arith, nat_tests) in
-    (natural_takes word m.0 m.1 (omega (arith, same, small)) ∙ ap decimal same, small)

@@ -1,9 +1,19 @@
--- Whole numbers as text: `0`, or digits with no zero in front, after a `-` where the number is below 0.
-use Rattle.std.specs.Prelude.{ℕ, suc, zero, ◌-◌, ◌^◌, ◌<◌, ◌&&◌, ◌||◌, ◌==◌, min, not, List, [], ◌∷◌, length, slice_index, Bool, if◌then◌else◌, Option, Some, None, option_map, option_and_then, ℤ, pos, negsuc}
+-- Whole numbers of any size as text: `0`, or digits with no zero in front, after a `-` where the number is below 0.
+use Rattle.std.specs.Prelude.{ℕ, suc, zero, ◌+◌, ◌-◌, ◌^◌, ◌&&◌, ◌||◌, ◌==◌, min, not, List, [], ◌∷◌, length, map, slice_index, Bool, if◌then◌else◌, Option, Some, None, option_map, option_and_then, ℤ, pos, negsuc}
 use Rattle.std.specs.Char.{is_ascii_digit}
 use Rattle.std.specs.Int.{w64, saturate_signed}
+use Rattle.std.specs.Int.Digits.{digits_of}
 use Rattle.std.specs.List.{list_all}
 use Rattle.std.specs.Str.Parse.{digits_value}
+
+-- the one text of a number of any size
+unfoldable pub numeral : ℕ → List ℕ
+numeral zero = 48 ∷ []
+numeral (suc n) = map (λ d. 48 + d) (digits_of 10 (suc n))
+
+abbrev pub signed_numeral : ℤ → List ℕ
+signed_numeral (pos n) = numeral n
+signed_numeral (negsuc n) = 45 ∷ numeral (suc n)
 
 -- digits with no needless zero in front
 abbrev pub is_numeral : List ℕ → Bool
@@ -37,8 +47,3 @@ size_at word = option_map (λ n. min n (2 ^ 64 - 1)) (natural word)
 -- the number that a word is; one past 64 bits counts as the nearest of 64 bits
 abbrev pub number_at : List ℕ → Option ℤ
 number_at word = option_map (saturate_signed w64) (integer word)
-
--- a number that is none of the two that others count as
-abbrev pub IsWithin : ℤ → Type 0
-IsWithin (pos n) = n < 2 ^ 63 - 1
-IsWithin (negsuc n) = n < 2 ^ 63 - 1

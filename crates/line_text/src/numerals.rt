@@ -1,11 +1,10 @@
 // Whole numbers as text: `0`, or digits with no zero in front, after a `-` where the number is below 0.
-ghost use Rattle.std.specs.Prelude.{true, ◌≡◌, ◌≢◌, ◌<◌, ◌∷◌, ◌++◌, ◌^◌, ◌-◌, ℤ, pos, neg_ℤ, min, length, ℕ, List, Some, None, IsTrue, MatchOption, IfSome, OnOk, OnErr, FitsSigned, decimal, option_map, option_and_then};
-ghost use Rattle.std.specs.Fmt.{signed_decimal};
-ghost use Rattle.std.specs.Int.{w64};
+ghost use Rattle.std.specs.Prelude.{true, ◌≡◌, ◌≢◌, ◌<◌, ◌∷◌, ◌++◌, ◌^◌, ◌-◌, ℤ, min, length, ℕ, List, Some, MatchOption, IfSome, OnOk, OnErr, option_map, option_and_then};
+ghost use Rattle.std.specs.Int.{w64, saturate_signed};
 ghost use Rattle.std.specs.List.{list_all};
 ghost use Rattle.std.specs.Char.{is_ascii_digit};
 ghost use Rattle.std.specs.Str.Parse.{digits_value};
-ghost use Rattle.line_text.specs.Numerals.{is_numeral, up_to_max, below_zero, size_at, number_at, IsWithin};
+ghost use Rattle.line_text.specs.Numerals.{numeral, signed_numeral, is_numeral, up_to_max, below_zero, size_at, number_at};
 
 use gas_model::{Bytes, NoMemory};
 use itoa::Buffer;
@@ -66,10 +65,10 @@ fn below_zero(size: Option<u64>) -> Option<i64>
 /// A number past 64 bits counts as the greatest of 64 bits.
 pub fn size_at(word: &str) -> Option<u64>
     ensures exact { result ≡ size_at word.now }
-    // What is spelled is read.
-    ensures spelled { (n : ℕ) → n < 2 ^ 64 → word.now ≡ decimal n → result ≡ Some n }
+    // What a number of any size spells is read.
+    ensures spelled { (n : ℕ) → word.now ≡ numeral n → result ≡ Some (min n (2 ^ 64 - 1)) }
     // What is read was spelled so.
-    ensures read { IfSome result (λ n. n < 2 ^ 64 - 1 → word.now ≡ decimal n) }
+    ensures read { IfSome result (λ k. (n : ℕ) × (word.now ≡ numeral n) × (k ≡ min n (2 ^ 64 - 1))) }
 {
     if is_numeral(word) {
         Some(size_of(word))
@@ -90,10 +89,10 @@ fn after_minus(word: &str) -> Option<&str>
 /// another form, as `-0`, `00` or `+1`, is none. A number past 64 bits counts as the nearest of 64 bits.
 pub fn number_at(word: &str) -> Option<i64>
     ensures exact { result ≡ number_at word.now }
-    // What is spelled is read.
-    ensures spelled { (z : ℤ) → FitsSigned w64 z → word.now ≡ signed_decimal z → result ≡ Some z }
+    // What a number of any size spells is read.
+    ensures spelled { (z : ℤ) → word.now ≡ signed_numeral z → result ≡ Some (saturate_signed w64 z) }
     // What is read was spelled so.
-    ensures read { IfSome result (λ z. IsWithin z → word.now ≡ signed_decimal z) }
+    ensures read { IfSome result (λ k. (z : ℤ) × (word.now ≡ signed_numeral z) × (k ≡ saturate_signed w64 z)) }
 {
     match after_minus(word) {
         Some(digits) => below_zero(size_at(digits)),
@@ -103,7 +102,7 @@ pub fn number_at(word: &str) -> Option<i64>
 
 /// Writes a position at the end: its digits, with no zero in front. An error leaves the bytes as before.
 pub fn put_position(out: &mut Bytes, position: u32) -> Result<(), NoMemory>
-    ensures ok { OnOk result (out.new ≡ out.old ++ decimal position) }
+    ensures ok { OnOk result (out.new ≡ out.old ++ numeral position) }
     ensures err { OnErr result (out.new ≡ out.old) }
 {
     out.append(Buffer::new().format(position).as_bytes())
@@ -112,7 +111,7 @@ pub fn put_position(out: &mut Bytes, position: u32) -> Result<(), NoMemory>
 /// Writes a number at the end: its digits with no zero in front, after a `-` where it is below 0. An error leaves
 /// the bytes as before.
 pub fn put_number(out: &mut Bytes, number: i64) -> Result<(), NoMemory>
-    ensures ok { OnOk result (out.new ≡ out.old ++ signed_decimal number) }
+    ensures ok { OnOk result (out.new ≡ out.old ++ signed_numeral number) }
     ensures err { OnErr result (out.new ≡ out.old) }
 {
     out.append(Buffer::new().format(number).as_bytes())

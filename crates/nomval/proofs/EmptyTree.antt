@@ -1,6 +1,6 @@
 -- The tree that closes the opening box by an empty variable passes the checker.
 use Rattle.std.proofs.Common.{◌≡◌, ℕ, ◌<◌, ◌≤◌, ◌^◌, ◌&&◌, Bool, true, List, [], ◌∷◌, ◌++◌, length, map, position, Option, Some, None, refl, ap, sym, subst, ◌∙◌, arith, append_assoc, append-nil, ℤ, pos, ◌*ℤ◌, int_lt}
-use Rattle.std.specs.Prelude.{slice_get, slice_index_or, option_map, nat_lt, codes, decimal}
+use Rattle.std.specs.Prelude.{slice_get, slice_index_or, option_map, nat_lt, codes}
 use Rattle.std.specs.Option.{option_or}
 use Rattle.std.specs.List.{list_all, flat_map}
 use Rattle.std.proofs.lemmas.Bool.{lt-ltb}
@@ -12,6 +12,7 @@ use Rattle.gas_model.specs.Boxes.{ends_of, is_var, is_empty, opening, flow_ends,
 use Rattle.gas_model.specs.Curves.{square}
 use Rattle.gas_model.specs.Rows.{Network}
 use Rattle.gas_model.specs.Within.{IsWithin}
+use Rattle.line_text.specs.Numerals.{numeral}
 use Rattle.tree_cert.specs.declared.line.Closing.TheVariants.{Empty}
 use Rattle.tree_cert.specs.declared.line.Line.{Line}
 use Rattle.tree_cert.specs.declared.line.Line.TheVariants as lines
@@ -33,8 +34,8 @@ line_end field next rest =
 
 are_text : (v : Var) → empty_tree v ≡ flat_map spelling (empty_lines v)
 unfolding empty_lines
-are_text (Flow a) = ap (λ (t : List ℕ). codes "gastree 1" ++ (10 ∷ (codes "close empty q" ++ t))) (line_end (decimal a) (codes "end") (10 ∷ []))
-are_text (Square n) = ap (λ (t : List ℕ). codes "gastree 1" ++ (10 ∷ (codes "close empty s" ++ t))) (line_end (decimal n) (codes "end") (10 ∷ []))
+are_text (Flow a) = ap (λ (t : List ℕ). codes "gastree 1" ++ (10 ∷ (codes "close empty q" ++ t))) (line_end (numeral a) (codes "end") (10 ∷ []))
+are_text (Square n) = ap (λ (t : List ℕ). codes "gastree 1" ++ (10 ∷ (codes "close empty s" ++ t))) (line_end (numeral n) (codes "end") (10 ∷ []))
 
 are_spelled : (v : Var) → fits_var v ≡ true → list_all is_spelled (empty_lines v) ≡ true
 unfolding empty_lines

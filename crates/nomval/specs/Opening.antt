@@ -1,5 +1,5 @@
 -- The opening box, as far as it tells that a problem has no point: a variable whose bounds leave nothing.
-use Rattle.std.specs.Prelude.{ℕ, Bool, List, [], ◌∷◌, ◌++◌, Option, position, option_map, int_lt, codes, decimal}
+use Rattle.std.specs.Prelude.{ℕ, Bool, List, [], ◌∷◌, ◌++◌, Option, position, option_map, int_lt, codes}
 use Rattle.std.specs.Option.{option_or}
 use Rattle.gas_model.specs.declared.rows.NodeRow.{NodeRow}
 use Rattle.gas_model.specs.declared.rows.ArcRow.{ArcRow}
@@ -7,6 +7,7 @@ use Rattle.gas_model.specs.declared.rows.Var.{Var}
 use Rattle.gas_model.specs.declared.rows.Var.TheVariants.{Flow, Square}
 use Rattle.gas_model.specs.Curves.{square}
 use Rattle.gas_model.specs.Rows.{Network}
+use Rattle.line_text.specs.Numerals.{numeral}
 
 -- the lower end of the flow is above its upper end
 abbrev pub is_flow_empty : ArcRow → Bool
@@ -22,8 +23,8 @@ first_empty p = option_or (option_map Flow (position is_flow_empty p.arcs)) (opt
 
 -- the letter and the position of a variable
 abbrev pub var_text : Var → List ℕ
-var_text (Flow a) = codes "q" ++ decimal a
-var_text (Square n) = codes "s" ++ decimal n
+var_text (Flow a) = codes "q" ++ numeral a
+var_text (Square n) = codes "s" ++ numeral n
 
 -- the refutation tree that closes the opening box by an empty variable
 abbrev pub empty_tree : Var → List ℕ

@@ -1,21 +1,19 @@
 -- The nodes of a cut are read as their text says, and the text says what they are read as.
-use Rattle.std.proofs.Common.{◌≡◌, ◌<◌, ◌≤◌, ◌^◌, inl, inr, ℕ, suc, List, [], ◌∷◌, ◌++◌, length, map, Bool, true, false, cond, ◌&&◌, Option, Some, None, refl, sym, ap, subst, ◌∙◌, arith}
+use Rattle.std.proofs.Common.{◌≡◌, ◌≤◌, inl, inr, ℕ, List, [], ◌∷◌, ◌++◌, map, Bool, true, false, cond, Option, Some, None, refl, sym, ap, ◌∙◌, arith}
 use Rattle.std.specs.Prelude.{◌==◌, option_map, option_and_then, nat_le}
-use Rattle.std.specs.Fmt.{decimal}
 use Rattle.std.specs.List.{list_all, slice_split, onto_first, AllByRecursion}
-use Rattle.std.proofs.lemmas.Bool.{eqb-true, ne_eqb, and_parts, ltb-true}
-use Rattle.std.proofs.lemmas.Bool.Decides.{nat_tests, leb_tells}
+use Rattle.std.proofs.lemmas.Bool.{eqb-true, ne_eqb, and_parts}
+use Rattle.std.proofs.lemmas.Bool.Decides.{leb_tells}
 use Rattle.std.proofs.lemmas.List.{append-nil}
 use Rattle.std.proofs.lemmas.List.Splits.{slice_split_none, slice_split_at}
 use Rattle.std.proofs.lemmas.List.Elements.{All-from_recursion}
-use Rattle.line_text.specs.Numerals.{natural}
+use Rattle.line_text.specs.Numerals.{numeral, natural}
 use Rattle.line_text.specs.Long.{fits_position, fitting}
-use Rattle.line_text.proofs.Fields.{IsVisible}
-use Rattle.line_text.proofs.LongNumbers.{fitted}
+use Rattle.line_text.proofs.Fields.{IsVisible, numeral_visible}
 use Rattle.line_text.proofs.Numbers.{natural_again, natural_takes, mapped, bound}
 use Rattle.tree_cert.specs.Spelling.{is_node_list}
 use Rattle.tree_cert.specs.Reading.{spaced_words, naturals, node_list, nodes_at}
-use Rattle.tree_cert.proofs.FieldTexts.{spaced, IsWord, position_word}
+use Rattle.tree_cert.proofs.FieldTexts.{spaced}
 
 abbrev is_space : ℕ → Bool
 is_space b = b == 32
@@ -43,24 +41,16 @@ words_again : (ws : List (List ℕ)) → AreUnspaced ws → spaced_words (spaced
 words_again [] hs = refl
 words_again (w ∷ ws) hs = ap Some (split_spaced w ws hs.0 hs.1)
 
-small : (n : ℕ) → fits_position n ≡ true → n < 2 ^ 32
-small n e = ltb-true n (2 ^ 32) e
+numerals_unspaced : (ns : List ℕ) → AreUnspaced (map numeral ns)
+numerals_unspaced [] = tt
+numerals_unspaced (n ∷ ns) = (visible_no_space (numeral n) (numeral_visible n), numerals_unspaced ns)
 
-decimals_unspaced : (ns : List ℕ) → list_all fits_position ns ≡ true → AreUnspaced (map decimal ns)
-decimals_unspaced [] e = tt
-decimals_unspaced (n ∷ ns) e =
-    let p = and_parts (fits_position n) (list_all fits_position ns) e in
-    (visible_no_space (decimal n) (position_word n (small n p.0)).visible, decimals_unspaced ns p.1)
+naturals_again : (ns : List ℕ) → naturals (map numeral ns) ≡ Some ns
+naturals_again [] = refl
+naturals_again (n ∷ ns) = rw (natural_again n, naturals_again ns) refl
 
-naturals_again : (ns : List ℕ) → list_all fits_position ns ≡ true → naturals (map decimal ns) ≡ Some ns
-naturals_again [] e = refl
-naturals_again (n ∷ ns) e =
-    let p = and_parts (fits_position n) (list_all fits_position ns) e in
-    let lt = small n p.0 in
-    rw (natural_again n (omega (arith, lt)), naturals_again ns p.1) refl
-
-pub nodes_again : (ns : List ℕ) → is_node_list ns ≡ true → list_all fits_position ns ≡ true → nodes_at (spaced (map decimal ns)) ≡ Some (Some ns)
-nodes_again ns list fits = rw (words_again (map decimal ns) (decimals_unspaced ns fits), naturals_again ns fits, list, fits) refl
+pub nodes_again : (ns : List ℕ) → is_node_list ns ≡ true → nodes_at (spaced (map numeral ns)) ≡ Some (fitting (list_all fits_position) ns)
+nodes_again ns list = rw (words_again (map numeral ns) (numerals_unspaced ns), naturals_again ns, list) refl
 
 -- ---- and back
 
@@ -89,16 +79,12 @@ words_take (c ∷ rest) ws e = by (c == 32) refl e
         ap (λ (d : ℕ). d ∷ rest) (eqb-true c 32 h) ∙ sym (spaced_parts rest) ∙ ap spaced same
     by false h k = absurd cc
 
-naturals_take : (ws : List (List ℕ)) (ns : List ℕ) → naturals ws ≡ Some ns → list_all fits_position ns ≡ true → ws ≡ map decimal ns
-naturals_take [] ns e fits = let same : [] ≡ ns = cc in ap (map decimal) same
-naturals_take (w ∷ ws) ns e fits =
+naturals_take : (ws : List (List ℕ)) (ns : List ℕ) → naturals ws ≡ Some ns → ws ≡ map numeral ns
+naturals_take [] ns e = let same : [] ≡ ns = cc in ap (map numeral) same
+naturals_take (w ∷ ws) ns e =
     let n = bound (λ n. option_map (λ ns. n ∷ ns) (naturals ws)) (natural w) ns e in
     let ms = mapped (λ ms. n.0 ∷ ms) (naturals ws) ns n.2 in
-    let p = and_parts (fits_position n.0) (list_all fits_position ms.0) (ap (list_all fits_position) ms.2 ∙ fits) in
-    let lt = small n.0 p.0 in
-    ap (λ (k : List ℕ). k ∷ ws) (natural_takes w n.0 n.1 (omega (arith, lt)))
-    ∙ ap (λ (k : List (List ℕ)). decimal n.0 ∷ k) (naturals_take ws ms.0 ms.1 p.1)
-    ∙ ap (map decimal) ms.2
+    ap (λ (k : List ℕ). k ∷ ws) (natural_takes w n.0 n.1) ∙ ap (λ (k : List (List ℕ)). numeral n.0 ∷ k) (naturals_take ws ms.0 ms.1) ∙ ap (map numeral) ms.2
 
 if_list : (ms : List ℕ) (o : Option (List ℕ)) → node_list ms ≡ Some o → (is_node_list ms ≡ true) × (fitting (list_all fits_position) ms ≡ o)
 if_list ms o e = by (is_node_list ms) refl e
@@ -107,11 +93,9 @@ if_list ms o e = by (is_node_list ms) refl e
     by true h k = (h, cc)
     by false h k = absurd cc
 
-pub nodes_take : (bytes : List ℕ) (ns : List ℕ) → nodes_at bytes ≡ Some (Some ns) → (bytes ≡ spaced (map decimal ns)) × (is_node_list ns ≡ true) × (list_all fits_position ns ≡ true)
-nodes_take bytes ns e =
-    let ms = bound node_list (option_and_then naturals (spaced_words bytes)) (Some ns) e in
+pub nodes_take : (bytes : List ℕ) (o : Option (List ℕ)) → nodes_at bytes ≡ Some o → (ns : List ℕ) × (bytes ≡ spaced (map numeral ns)) × (is_node_list ns ≡ true) × (o ≡ fitting (list_all fits_position) ns)
+nodes_take bytes o e =
+    let ms = bound node_list (option_and_then naturals (spaced_words bytes)) o e in
     let ws = bound naturals (spaced_words bytes) ms.0 ms.1 in
-    let l = if_list ms.0 (Some ns) ms.2 in
-    let f = fitted (list_all fits_position) ms.0 ns l.1 in
-    let text : bytes ≡ spaced (map decimal ms.0) = words_take bytes ws.0 ws.1 ∙ ap spaced (naturals_take ws.0 ms.0 ws.2 f.0) in
-    (text ∙ ap (λ (k : List ℕ). spaced (map decimal k)) f.1, ap is_node_list (sym f.1) ∙ l.0, ap (list_all fits_position) (sym f.1) ∙ f.0)
+    let l = if_list ms.0 o ms.2 in
+    (ms.0, words_take bytes ws.0 ws.1 ∙ ap spaced (naturals_take ws.0 ms.0 ws.2), l.0, sym l.1)

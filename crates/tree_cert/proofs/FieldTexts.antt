@@ -1,14 +1,10 @@
 -- A field is read as what its text says, and its text says what it is read as.
-use Rattle.std.proofs.Common.{◌≡◌, ◌<◌, ◌≤◌, ◌^◌, ◌+◌, ◌⊎◌, inl, inr, ℕ, suc, List, [], ◌∷◌, ◌++◌, length, Bool, true, false, cond, ◌&&◌, not, Option, Some, None, Result, Ok, Err, ℤ, pos, negsuc, refl, sym, ap, subst, ◌∙◌, arith, rules}
-use Rattle.std.specs.Prelude.{◌==◌, option_map, nat_le, nat_lt, FitsSigned, codes}
-use Rattle.std.specs.Fmt.{decimal, signed_decimal}
-use Rattle.std.specs.Int.{w128}
+use Rattle.std.proofs.Common.{◌≡◌, ◌<◌, ◌≤◌, ℕ, suc, List, [], ◌∷◌, ◌++◌, length, Bool, true, false, cond, Option, Some, None, Result, Ok, Err, ℤ, pos, negsuc, refl, sym, ap, ◌∙◌, arith}
+use Rattle.std.specs.Prelude.{◌==◌, option_map, nat_le, nat_lt, codes}
 use Rattle.std.specs.List.{find, list_all, flat_map}
 use Rattle.std.specs.Str.{bytes_eq, is_utf8, IsAscii}
-use Rattle.std.proofs.lemmas.Bool.{eqb-true, ltb-true, lt-ltb, and_parts}
+use Rattle.std.proofs.lemmas.Bool.{eqb-true, ltb-true, and_parts}
 use Rattle.std.proofs.lemmas.Bool.Decides.{nat_tests}
-use Rattle.std.proofs.lemmas.Fmt.{IsAscii-from_digits}
-use Rattle.std.proofs.lemmas.Int.{ints}
 use Rattle.std.proofs.lemmas.Slice.Eq.{bytes_eq-Decides}
 use Rattle.std.proofs.lemmas.Str.{IsUtf8-from_ascii, is_utf8-from_IsUtf8}
 use Rattle.std.proofs.lemmas.Str.Ascii.{IsAscii-nil, IsAscii-cons}
@@ -17,10 +13,11 @@ use Rattle.gas_model.specs.declared.rows.ArcState.TheVariants.{Opened, Shut, Act
 use Rattle.gas_model.specs.declared.rows.Var.{Var}
 use Rattle.gas_model.specs.declared.rows.Var.TheVariants.{Flow, Square}
 use Rattle.line_text.specs.Words.{word_len, field_at}
-use Rattle.line_text.specs.Long.{fits_position, fits_long, position_at, long_at}
-use Rattle.line_text.proofs.Decimals.{own, decimal_form}
-use Rattle.line_text.proofs.Fields.{IsVisible, digits_visible, field_again, field_takes}
-use Rattle.line_text.proofs.LongNumbers.{fits_from, from_fits, long_again, long_takes, position_again, position_takes}
+use Rattle.line_text.specs.Numerals.{numeral, signed_numeral, natural, integer}
+use Rattle.line_text.specs.Long.{fits_position, fits_long, fitting, position_at, long_at}
+use Rattle.line_text.proofs.Decimals.{numeral_form}
+use Rattle.line_text.proofs.Fields.{IsVisible, numeral_visible, numeral_ascii, field_again, field_takes}
+use Rattle.line_text.proofs.Numbers.{natural_again, natural_takes, integer_again, integer_takes, mapped}
 use Rattle.tree_cert.specs.declared.line.Rule.{Rule}
 use Rattle.tree_cert.specs.declared.line.Rule.TheVariants as rules
 use Rattle.tree_cert.specs.declared.fault.LineFault.{LineFault}
@@ -55,35 +52,25 @@ fixed_word w e visible some = record { visible = visible; some = some; text = is
 
 -- ---- words of numbers
 
-decimal_ascii : (n : ℕ) → n < 10 ^ 64 → IsAscii (decimal n)
-decimal_ascii n small = IsAscii-from_digits (decimal n) (own.to (decimal n) (decimal_form n small).0)
-
-decimal_word : (n : ℕ) → n < 10 ^ 64 → IsWord (decimal n)
-decimal_word n small =
-    let f = decimal_form n small in
-    record { visible = digits_visible (decimal n) f.0; some = f.1; text = is_utf8-from_IsUtf8 _ (IsUtf8-from_ascii _ (decimal_ascii n small)) }
+numeral_word : (n : ℕ) → IsWord (numeral n)
+numeral_word n = record { visible = numeral_visible n; some = (numeral_form n).1; text = is_utf8-from_IsUtf8 _ (IsUtf8-from_ascii _ (numeral_ascii n)) }
 
 -- the same after a letter
-lettered_word : (c n : ℕ) → 33 ≤ c → c < 128 → n < 10 ^ 64 → IsWord (c ∷ decimal n)
-lettered_word c n low high small =
-    let f = decimal_form n small in
+lettered_word : (c n : ℕ) → 33 ≤ c → c < 128 → IsWord (c ∷ numeral n)
+lettered_word c n low high =
     let seen : nat_le 33 c ≡ true = grind (arith, nat_tests) in
-    record {
-      visible = rw seen (digits_visible (decimal n) f.0);
-      some = omega arith;
-      text = is_utf8-from_IsUtf8 _ (IsUtf8-from_ascii _ (IsAscii-cons c (decimal n) high (decimal_ascii n small)));
-    }
+    record { visible = rw seen (numeral_visible n); some = omega arith; text = is_utf8-from_IsUtf8 _ (IsUtf8-from_ascii _ (IsAscii-cons c (numeral n) high (numeral_ascii n))) }
 
-pub position_word : (n : ℕ) → n < 2 ^ 32 → IsWord (decimal n)
-position_word n small = decimal_word n (omega (arith, small))
+pub position_word : (n : ℕ) → IsWord (numeral n)
+position_word n = numeral_word n
 
-pub long_word : (z : ℤ) → FitsSigned w128 z → IsWord (signed_decimal z)
-long_word (pos n) fits = decimal_word n (omega (arith, ints))
-long_word (negsuc n) fits = lettered_word 45 (suc n) (omega arith) (omega arith) (omega (arith, ints))
+pub long_word : (z : ℤ) → IsWord (signed_numeral z)
+long_word (pos n) = numeral_word n
+long_word (negsuc n) = lettered_word 45 (suc n) (omega arith) (omega arith)
 
-pub var_word : (x : Var) → fits_var x ≡ true → IsWord (var_text x)
-var_word (Flow a) fits = let small : a < 2 ^ 32 = grind (arith, nat_tests) in lettered_word 113 a (omega arith) (omega arith) (omega (arith, small))
-var_word (Square n) fits = let small : n < 2 ^ 32 = grind (arith, nat_tests) in lettered_word 115 n (omega arith) (omega arith) (omega (arith, small))
+pub var_word : (x : Var) → IsWord (var_text x)
+var_word (Flow a) = lettered_word 113 a (omega arith) (omega arith)
+var_word (Square n) = lettered_word 115 n (omega arith) (omega arith)
 
 pub rule_is_word : (rule : Rule) → IsWord (rule_text rule)
 rule_is_word rules.Balance = fixed_word (codes "balance") refl refl (omega arith)
@@ -141,80 +128,73 @@ module _ {A : Type 0} (at : List ℕ → Option A) where
       let behind : f.0.1 ≡ rest = ap (λ (p : A × List ℕ). p.1) same in
       (f.0.0, found_ok (at f.0.0) n.0 n.1 ∙ ap Some value, field_takes bytes f.0.0 f.0.1 (found_ok (field_at bytes) f.0 f.1) ∙ ap (λ (r : List ℕ). 32 ∷ (f.0.0 ++ r)) behind)
 
--- ---- fields of each kind
+-- ---- fields of numbers of any size, which are none within where they don't fit
 
-pub position_field_again : (n : ℕ) (rest : List ℕ) → n < 2 ^ 32 → word_len rest ≡ 0 → position_field (32 ∷ (decimal n ++ rest)) ≡ Ok (Some n, rest)
+pub position_field_again : (n : ℕ) (rest : List ℕ) → word_len rest ≡ 0 → position_field (32 ∷ (numeral n ++ rest)) ≡ Ok (fitting fits_position n, rest)
 unfolding position_field
-position_field_again n rest small h = by_again position_at (decimal n) rest (Some n) (position_word n small) (position_again n small) h
+position_field_again n rest h = by_again position_at (numeral n) rest (fitting fits_position n) (position_word n) (ap (option_map (fitting fits_position)) (natural_again n)) h
 
-pub position_field_takes : (bytes : List ℕ) (n : ℕ) (rest : List ℕ) → position_field bytes ≡ Ok (Some n, rest) → (bytes ≡ 32 ∷ (decimal n ++ rest)) × (n < 2 ^ 32)
+pub position_field_takes : (bytes : List ℕ) (o : Option ℕ) (rest : List ℕ) → position_field bytes ≡ Ok (o, rest) → (n : ℕ) × (bytes ≡ 32 ∷ (numeral n ++ rest)) × (o ≡ fitting fits_position n)
 unfolding position_field
-position_field_takes bytes n rest e =
-    let t = by_takes position_at bytes (Some n) rest e in
-    let p = position_takes t.0 n t.1 in
-    (t.2 ∙ ap (λ (w : List ℕ). 32 ∷ (w ++ rest)) p.0, p.1)
+position_field_takes bytes o rest e =
+    let t = by_takes position_at bytes o rest e in
+    let m = mapped (fitting fits_position) (natural t.0) o t.1 in
+    (m.0, t.2 ∙ ap (λ (w : List ℕ). 32 ∷ (w ++ rest)) (natural_takes t.0 m.0 m.1), sym m.2)
 
-pub number_field_again : (z : ℤ) (rest : List ℕ) → FitsSigned w128 z → word_len rest ≡ 0 → number_field (32 ∷ (signed_decimal z ++ rest)) ≡ Ok (Some z, rest)
+pub number_field_again : (z : ℤ) (rest : List ℕ) → word_len rest ≡ 0 → number_field (32 ∷ (signed_numeral z ++ rest)) ≡ Ok (fitting fits_long z, rest)
 unfolding number_field
-number_field_again z rest fits h = by_again long_at (signed_decimal z) rest (Some z) (long_word z fits) (long_again z fits) h
+number_field_again z rest h = by_again long_at (signed_numeral z) rest (fitting fits_long z) (long_word z) (ap (option_map (fitting fits_long)) (integer_again z)) h
 
-pub number_field_takes : (bytes : List ℕ) (z : ℤ) (rest : List ℕ) → number_field bytes ≡ Ok (Some z, rest) → (bytes ≡ 32 ∷ (signed_decimal z ++ rest)) × FitsSigned w128 z
+pub number_field_takes : (bytes : List ℕ) (o : Option ℤ) (rest : List ℕ) → number_field bytes ≡ Ok (o, rest) → (z : ℤ) × (bytes ≡ 32 ∷ (signed_numeral z ++ rest)) × (o ≡ fitting fits_long z)
 unfolding number_field
-number_field_takes bytes z rest e =
-    let t = by_takes long_at bytes (Some z) rest e in
-    let p = long_takes t.0 z t.1 in
-    (t.2 ∙ ap (λ (w : List ℕ). 32 ∷ (w ++ rest)) p.0, p.1)
+number_field_takes bytes o rest e =
+    let t = by_takes long_at bytes o rest e in
+    let m = mapped (fitting fits_long) (integer t.0) o t.1 in
+    (m.0, t.2 ∙ ap (λ (w : List ℕ). 32 ∷ (w ++ rest)) (integer_takes t.0 m.0 m.1), sym m.2)
 
-fits_small : (n : ℕ) → fits_position n ≡ true → n < 2 ^ 32
-fits_small n e = ltb-true n (2 ^ 32) e
+-- what is made of a number that fits, where it does
+pub made_where : {A B : Type 0} (make : A → B) (b : Bool) (x : A) → option_map make (cond b (Some x) None) ≡ cond b (Some (make x)) None
+made_where make true x = refl
+made_where make false x = refl
 
-pub small_fits : (n : ℕ) → n < 2 ^ 32 → fits_position n ≡ true
-small_fits n lt = lt-ltb n (2 ^ 32) lt
-
-var_again : (x : Var) → fits_var x ≡ true → var_at (var_text x) ≡ Some (Some x)
-var_again (Flow a) fits = let again = position_again a (fits_small a fits) in rw again refl
-var_again (Square n) fits = let again = position_again n (fits_small n fits) in rw again refl
+var_again : (x : Var) → var_at (var_text x) ≡ Some (fitting fits_var x)
+var_again (Flow a) = ap (λ (o : Option ℕ). option_map (option_map Flow) (option_map (fitting fits_position) o)) (natural_again a) ∙ ap Some (made_where Flow (fits_position a) a)
+var_again (Square n) = ap (λ (o : Option ℕ). option_map (option_map Square) (option_map (fitting fits_position) o)) (natural_again n) ∙ ap Some (made_where Square (fits_position n) n)
 
 -- what a letter and a position name
-named : (make : ℕ → Var) (digits : List ℕ) (x : Var) → option_map (option_map make) (position_at digits) ≡ Some (Some x) → (n : ℕ) × (position_at digits ≡ Some (Some n)) × (make n ≡ x)
-named make digits x e = by (position_at digits) refl e
+named : (make : ℕ → Var) (digits : List ℕ) (o : Option Var) → option_map (option_map make) (position_at digits) ≡ Some o → (n : ℕ) × (digits ≡ numeral n) × (option_map make (fitting fits_position n) ≡ o)
+named make digits o e =
+    let p = mapped (option_map make) (position_at digits) o e in
+    let m = mapped (fitting fits_position) (natural digits) p.0 p.1 in
+    (m.0, natural_takes digits m.0 m.1, ap (option_map make) m.2 ∙ p.2)
+
+var_takes : (w : List ℕ) (o : Option Var) → var_at w ≡ Some o → (x : Var) × (w ≡ var_text x) × (o ≡ fitting fits_var x)
+var_takes [] o e = absurd cc
+var_takes (c ∷ digits) o e = by (c == 113) (c == 115) refl refl e
   where
-    by : (o : Option (Option ℕ)) → position_at digits ≡ o → option_map (option_map make) o ≡ Some (Some x) → (n : ℕ) × (position_at digits ≡ Some (Some n)) × (make n ≡ x)
-    by None h k = absurd cc
-    by (Some None) h k = absurd cc
-    by (Some (Some n)) h k = (n, h, cc)
-
-var_takes : (w : List ℕ) (x : Var) → var_at w ≡ Some (Some x) → (w ≡ var_text x) × (fits_var x ≡ true)
-var_takes [] x e = absurd cc
-var_takes (c ∷ digits) x e = by (c == 113) (c == 115) refl refl e
-  where
-    flow : (n : ℕ) → c ≡ 113 → position_at digits ≡ Some (Some n) → Flow n ≡ x → (c ∷ digits ≡ var_text x) × (fits_var x ≡ true)
-    flow n is e same =
-        let p = position_takes digits n e in
-        (ap (λ (d : ℕ). d ∷ digits) is ∙ ap (λ (d : List ℕ). 113 ∷ d) p.0 ∙ ap var_text same, ap fits_var (sym same) ∙ small_fits n p.1)
-
-    square : (n : ℕ) → c ≡ 115 → position_at digits ≡ Some (Some n) → Square n ≡ x → (c ∷ digits ≡ var_text x) × (fits_var x ≡ true)
-    square n is e same =
-        let p = position_takes digits n e in
-        (ap (λ (d : ℕ). d ∷ digits) is ∙ ap (λ (d : List ℕ). 115 ∷ d) p.0 ∙ ap var_text same, ap fits_var (sym same) ∙ small_fits n p.1)
-
     by : (a b : Bool) → (c == 113) ≡ a → (c == 115) ≡ b
-        → cond a (option_map (option_map Flow) (position_at digits)) (cond b (option_map (option_map Square) (position_at digits)) None) ≡ Some (Some x)
-        → (c ∷ digits ≡ var_text x) × (fits_var x ≡ true)
-    by true b p q k = let n = named Flow digits x k in flow n.0 (eqb-true c 113 p) n.1 n.2
-    by false true p q k = let n = named Square digits x k in square n.0 (eqb-true c 115 q) n.1 n.2
+        → cond a (option_map (option_map Flow) (position_at digits)) (cond b (option_map (option_map Square) (position_at digits)) None) ≡ Some o
+        → (x : Var) × (c ∷ digits ≡ var_text x) × (o ≡ fitting fits_var x)
+    by true b p q k =
+        let n = named Flow digits o k in
+        (Flow n.0, ap (λ (d : ℕ). d ∷ digits) (eqb-true c 113 p) ∙ ap (λ (d : List ℕ). 113 ∷ d) n.1, sym n.2 ∙ made_where Flow (fits_position n.0) n.0)
+    by false true p q k =
+        let n = named Square digits o k in
+        (Square n.0, ap (λ (d : ℕ). d ∷ digits) (eqb-true c 115 q) ∙ ap (λ (d : List ℕ). 115 ∷ d) n.1, sym n.2 ∙ made_where Square (fits_position n.0) n.0)
     by false false p q k = absurd cc
 
-pub var_field_again : (x : Var) (rest : List ℕ) → fits_var x ≡ true → word_len rest ≡ 0 → var_field (32 ∷ (var_text x ++ rest)) ≡ Ok (Some x, rest)
+pub var_field_again : (x : Var) (rest : List ℕ) → word_len rest ≡ 0 → var_field (32 ∷ (var_text x ++ rest)) ≡ Ok (fitting fits_var x, rest)
 unfolding var_field
-var_field_again x rest fits h = by_again var_at (var_text x) rest (Some x) (var_word x fits) (var_again x fits) h
+var_field_again x rest h = by_again var_at (var_text x) rest (fitting fits_var x) (var_word x) (var_again x) h
 
-pub var_field_takes : (bytes : List ℕ) (x : Var) (rest : List ℕ) → var_field bytes ≡ Ok (Some x, rest) → (bytes ≡ 32 ∷ (var_text x ++ rest)) × (fits_var x ≡ true)
+pub var_field_takes : (bytes : List ℕ) (o : Option Var) (rest : List ℕ) → var_field bytes ≡ Ok (o, rest) → (x : Var) × (bytes ≡ 32 ∷ (var_text x ++ rest)) × (o ≡ fitting fits_var x)
 unfolding var_field
-var_field_takes bytes x rest e =
-    let t = by_takes var_at bytes (Some x) rest e in
-    let p = var_takes t.0 x t.1 in
-    (t.2 ∙ ap (λ (w : List ℕ). 32 ∷ (w ++ rest)) p.0, p.1)
+var_field_takes bytes o rest e =
+    let t = by_takes var_at bytes o rest e in
+    let p = var_takes t.0 o t.1 in
+    (p.0, t.2 ∙ ap (λ (w : List ℕ). 32 ∷ (w ++ rest)) p.1, p.2)
+
+-- ---- fields of words
 
 -- what is found by its text has this text
 pub found_text : {A : Type 0} (text : A → List ℕ) (w : List ℕ) (xs : List A) (x : A) → find (λ y. bytes_eq w (text y)) xs ≡ Some x → w ≡ text x
@@ -303,3 +283,54 @@ ended_takes (c ∷ bytes) u e = by (length (c ∷ bytes) == 0) refl e
     by : (b : Bool) → (length (c ∷ bytes) == 0) ≡ b → cond b (Ok tt) (Err fault.NotLine) ≡ Ok u → c ∷ bytes ≡ []
     by true h k = absurd (let none : length (c ∷ bytes) ≡ 0 = eqb-true _ _ h in omega (arith, none))
     by false h k = absurd cc
+
+-- ---- what isn't read is of no form: fields are never too wide by themselves
+
+abbrev pub NeverWide : {A : Type 0} → Result A LineFault → Type 0
+NeverWide (Ok x) = Unit {0}
+NeverWide (Err e) = e ≡ fault.NotLine
+
+pub found_never : {A : Type 0} (o : Option A) → NeverWide (found o)
+found_never None = refl
+found_never (Some x) = tt
+
+pub bound_never : {A B : Type 0} (r : Result A LineFault) (f : A → Result B LineFault) → NeverWide r → ((x : A) → NeverWide (f x)) → NeverWide (r >>= f)
+bound_never (Ok x) f h k = k x
+bound_never (Err e) f h k = h
+
+by_never : {A : Type 0} (at : List ℕ → Option A) (bytes : List ℕ) → NeverWide (field_by at bytes)
+by_never at bytes = bound_never (text_field bytes) _ (found_never (field_at bytes)) (λ word. bound_never (found (at word.0)) _ (found_never (at word.0)) (λ _. tt))
+
+pub text_never : (bytes : List ℕ) → NeverWide (text_field bytes)
+text_never bytes = found_never (field_at bytes)
+
+tested_never : (b : Bool) (u : Unit {0}) → NeverWide (cond b (Ok u) (Err fault.NotLine))
+tested_never true u = tt
+tested_never false u = refl
+
+pub ended_never : (bytes : List ℕ) → NeverWide (ended bytes)
+ended_never bytes = tested_never (length bytes == 0) tt
+
+pub position_never : (bytes : List ℕ) → NeverWide (position_field bytes)
+unfolding position_field
+position_never bytes = by_never position_at bytes
+
+pub number_never : (bytes : List ℕ) → NeverWide (number_field bytes)
+unfolding number_field
+number_never bytes = by_never long_at bytes
+
+pub var_never : (bytes : List ℕ) → NeverWide (var_field bytes)
+unfolding var_field
+var_never bytes = by_never var_at bytes
+
+pub rule_never : (bytes : List ℕ) → NeverWide (rule_field bytes)
+unfolding rule_field
+rule_never bytes = by_never rule_at bytes
+
+pub state_never : (bytes : List ℕ) → NeverWide (state_field bytes)
+unfolding state_field
+state_never bytes = by_never state_at bytes
+
+pub end_never : (bytes : List ℕ) → NeverWide (end_field bytes)
+unfolding end_field
+end_never bytes = by_never end_at bytes

@@ -1,7 +1,7 @@
 -- What is added piece by piece.
 use Rattle.std.proofs.Common.{◌≡◌, ◌<◌, ℕ, suc, List, [], ◌∷◌, ◌++◌, length, map, take, drop, get_or, Result, Ok, Err, refl, sym, ap, subst, ◌∙◌, append_assoc, take-append-drop}
 use Rattle.std.specs.Prelude.{OnOk, OnErr, IsErr}
-use Rattle.std.specs.Fmt.{decimal}
+use Rattle.line_text.specs.Numerals.{numeral}
 use Rattle.std.specs.List.{flat_map}
 use Rattle.std.proofs.lemmas.Grind.{flat_map-append}
 use Rattle.std.proofs.lemmas.List.{append-nil}
@@ -46,6 +46,6 @@ front_at f xs i d before between after lt e h =
     (front_after before between after (flat_map f (take i xs)) (f (get_or xs i d) ++ flat_map f (drop (suc i) xs)) e (front_of_first between after (f (get_or xs i d)) (flat_map f (drop (suc i) xs)) h))
 
 -- pieces that are words after a space each
-pub spaced_pieces : (ns : List ℕ) → flat_map (λ n. 32 ∷ decimal n) ns ≡ flat_map (λ field. 32 ∷ field) (map decimal ns)
+pub spaced_pieces : (ns : List ℕ) → flat_map (λ n. 32 ∷ numeral n) ns ≡ flat_map (λ field. 32 ∷ field) (map numeral ns)
 spaced_pieces [] = refl
-spaced_pieces (n ∷ ns) = ap (λ (k : List ℕ). 32 ∷ (decimal n ++ k)) (spaced_pieces ns)
+spaced_pieces (n ∷ ns) = ap (λ (k : List ℕ). 32 ∷ (numeral n ++ k)) (spaced_pieces ns)

@@ -1,15 +1,15 @@
 -- A text is judged line by line, and what is so found is the one finding of the text.
-use Rattle.std.proofs.Common.{◌≡◌, ◌⊎◌, inl, inr, ℕ, zero, suc, ◌+◌, ◌≤◌, ◌<◌, List, [], ◌∷◌, ◌++◌, length, map, take, slice_get, Option, Some, None, Result, Ok, Err, refl, sym, ap, subst, ◌∙◌, arith}
+use Rattle.std.proofs.Common.{◌≡◌, ◌⊎◌, inl, inr, ℕ, zero, suc, ◌+◌, ◌≤◌, List, [], ◌∷◌, length, map, take, slice_get, Option, Some, None, Result, Ok, Err, refl, sym, ap, subst, ◌∙◌, arith}
 use Rattle.tree_cert.specs.declared.fault.FaultKind.{FaultKind}
-use Rattle.tree_cert.specs.declared.fault.FaultKind.TheVariants.{NotTree, WrongEnd}
+use Rattle.tree_cert.specs.declared.fault.FaultKind.TheVariants.{WrongEnd}
 use Rattle.tree_cert.specs.declared.line.Line.{Line}
 use Rattle.tree_cert.specs.declared.line.Line.TheVariants as lines
-use Rattle.tree_cert.specs.Tree.{Tree, IsClosed, tree_lines}
+use Rattle.tree_cert.specs.Tree.{Tree}
 use Rattle.tree_cert.specs.TreeRules.{TreeRules, IsTextOf}
 use Rattle.tree_cert.specs.Spelling.{AreLines}
-use Rattle.tree_cert.specs.Place.{Place, Start, Inside, Expecting, Whole, Ended, read, read_first, read_end, allowed}
-use Rattle.tree_cert.specs.Texts.{Read, ◌>>=◌, lines_in, next, next_or_end, walk, IsFirstFault, FirstFault, open_from, first_open, PassesWholeText, PassesPartText, Finding, Refutes, Partial, Fails, IsFinding}
-use Rattle.tree_cert.specs.Laws.{LinesAreRead, FindingsExist, FindingsAreUnique}
+use Rattle.tree_cert.specs.Place.{Place, Start, Inside, Expecting, Whole, Ended, read, read_end}
+use Rattle.tree_cert.specs.Texts.{Read, lines_in, next, next_or_end, walk, open_from, first_open, Finding, Refutes, Partial, Fails, IsFinding}
+use Rattle.tree_cert.specs.Laws.{LinesAreRead}
 use Rattle.tree_cert.proofs.Options.{bind_ok}
 use Rattle.tree_cert.proofs.Walks.{tree_of_walk, walk_text}
 use Rattle.tree_cert.proofs.Opens.{closed_trees_have_no_open_line}

@@ -1,12 +1,12 @@
 -- The nodes of a cut, read one after the other.
-use Rattle.std.proofs.Common.{◌≡◌, ◌≢◌, ◌<◌, ◌≤◌, ◌+◌, inl, inr, ◌⊎◌, ℕ, suc, zero, List, [], ◌∷◌, ◌++◌, length, take, drop, get_or, Bool, true, false, cond, not, ◌&&◌, Option, Some, None, Result, Ok, Err, refl, sym, ap, subst, ◌∙◌, arith, nat_lt, append_assoc}
+use Rattle.std.proofs.Common.{◌≡◌, ◌≢◌, ◌<◌, ◌+◌, inl, inr, ℕ, suc, List, [], ◌∷◌, ◌++◌, length, take, drop, get_or, Bool, true, false, cond, not, ◌&&◌, Option, Some, None, Result, Ok, Err, refl, sym, ap, ◌∙◌, arith, nat_lt, append_assoc}
 use Rattle.std.specs.Prelude.{◌==◌, option_map, option_and_then}
-use Rattle.std.specs.List.{list_all, slice_split, position_or_len}
+use Rattle.std.specs.List.{list_all, slice_split}
 use Rattle.std.specs.Str.Parse.{digits_value}
 use Rattle.std.specs.Str.{is_utf8, IsUtf8}
-use Rattle.std.proofs.lemmas.Bool.{eqb-true, eqb-false, ne_eqb, cases_lt}
+use Rattle.std.proofs.lemmas.Bool.{eqb-true, eqb-false, cases_lt}
 use Rattle.std.proofs.lemmas.List.{append-nil, take_all, drop_all, length-append}
-use Rattle.std.proofs.lemmas.List.Sums.{split_at_first, passes_at_first, fails_before_first}
+use Rattle.std.proofs.lemmas.List.Sums.{passes_at_first, fails_before_first}
 use Rattle.std.proofs.lemmas.List.Splits.{slice_split_none, slice_split_first}
 use Rattle.std.proofs.lemmas.Fmt.{IsAscii-from_digits}
 use Rattle.std.proofs.lemmas.Str.{IsUtf8-from_ascii, is_utf8-from_IsUtf8}
@@ -19,7 +19,7 @@ use Rattle.line_text.proofs.Numbers.{sized, mapped, bound}
 use Rattle.line_text.proofs.Fields.{field_takes}
 use Rattle.tree_cert.specs.declared.fault.LineFault.{LineFault}
 use Rattle.tree_cert.specs.declared.fault.LineFault.TheVariants as fault
-use Rattle.tree_cert.specs.Spelling.{ascends_after, is_node_list}
+use Rattle.tree_cert.specs.Spelling.{ascends_after}
 use Rattle.tree_cert.specs.Fields.{found}
 use Rattle.tree_cert.specs.Nodes.{with_node, node_field}
 use Rattle.tree_cert.specs.Reading.{spaced_words, naturals, node_list, nodes_at}
@@ -171,6 +171,12 @@ pub record IsNode (bytes word : List ℕ) (node : Option ℕ) (rest : List ℕ) 
   pub value : natural word ≡ Some number
   pub fits : node ≡ fitting fits_position number
 
+abbrev field_of : List ℕ → List ℕ → Option (List ℕ × List ℕ)
+field_of w rest = Some (w, rest)
+
+same_field : (x y w rest : List ℕ) → x ≡ w → y ≡ rest → field_of x y ≡ field_of w rest
+same_field x y w rest e f = rw (e, f) refl
+
 pub node_is : (bytes w : List ℕ) (o : Option ℕ) (rest : List ℕ) → node_field bytes ≡ Some (w, o, rest) → IsNode bytes w o rest
 unfolding node_field
 node_is bytes w o rest e =
@@ -182,7 +188,7 @@ node_is bytes w o rest e =
     let after : f.0.1 ≡ rest = ap (λ (x : List ℕ × Option ℕ × List ℕ). x.2) same in
     let node : n.0 ≡ o = ap (λ (x : List ℕ × Option ℕ × List ℕ). x.1) same in
     record {
-      field = f.1 ∙ ap (λ (x : List ℕ). Some (x, f.0.1)) word ∙ ap (λ (x : List ℕ). Some (w, x)) after;
+      field = f.1 ∙ same_field f.0.0 f.0.1 w rest word after;
       number = m.0;
       value = ap natural (sym word) ∙ m.1;
       fits = sym node ∙ sym m.2;

@@ -1,13 +1,12 @@
 -- A text is that of one tree that passes, at most.
-use Rattle.std.proofs.Common.{◌≡◌, List, [], ◌∷◌, ◌++◌, Option, Some, None, refl, sym, ap, subst, ◌∙◌, append_assoc}
-use Rattle.gas_model.specs.declared.rows.Var.{Var}
+use Rattle.std.proofs.Common.{◌≡◌, List, [], ◌∷◌, ◌++◌, Option, Some, refl, sym, ap, subst, ◌∙◌, append_assoc}
 use Rattle.tree_cert.specs.declared.line.Head.{Head}
 use Rattle.tree_cert.specs.declared.line.Line.{Line}
 use Rattle.tree_cert.specs.declared.line.Line.TheVariants as lines
 use Rattle.tree_cert.specs.declared.line.Step.{Step}
-use Rattle.tree_cert.specs.Tree.{Branch, ByGroup, ByArc, ByHalves, branch_line, Tree, Children, Then, Shut, Left, Split, NoChild, Child, box_lines, child_lines, tree_lines}
-use Rattle.tree_cert.specs.TreeRules.{TreeRules, Passes, PassAll, IsTextOf}
-use Rattle.tree_cert.specs.Laws.{TextsHaveOneTree}
+use Rattle.tree_cert.specs.Tree.{Branch, ByGroup, ByArc, ByHalves, branch_line, Tree, Children, Then, Shut, Left, Split, NoChild, Child, box_lines, child_lines}
+use Rattle.tree_cert.specs.TreeRules.{TreeRules, Passes, PassAll}
+use Rattle.tree_cert.specs.Laws.{BoxesHaveOneTree, TextsHaveOneTree}
 use Rattle.tree_cert.proofs.Options.{holds_some}
 
 parts : (l m : Line) (x y : List Line) → l ∷ x ≡ m ∷ y → (l ≡ m) × (x ≡ y)
@@ -105,10 +104,13 @@ module _ (g : TreeRules) where
         let rest = same_children ks js hq.0.1 r s moved.1 hq.2.1 first.1 in
         (ap (λ (z : Head). Child z t ks) same ∙ ap (λ (z : Tree). Child i z ks) first.0 ∙ ap (Child i u) rest.0, rest.1)
 
+  pub boxes_have_one_tree : BoxesHaveOneTree g
+  boxes_have_one_tree b first t u p q e = (same_box t u b (lines.End ∷ []) (lines.End ∷ []) p q (parts first first (box_lines t ++ lines.End ∷ []) (box_lines u ++ lines.End ∷ []) e).1).0
+
   pub texts_have_one_tree : TextsHaveOneTree g
   texts_have_one_tree ls t u a b =
       let e = parts a.first b.first (box_lines t ++ lines.End ∷ []) (box_lines u ++ lines.End ∷ []) (sym a.lines ∙ b.lines) in
       let p = holds_some (g.opening a.first) (Passes g t) a.passes in
       let q = holds_some (g.opening b.first) (Passes g u) b.passes in
       let same = one_some (g.opening a.first) (g.opening b.first) p.0 q.0 (ap g.opening e.0) p.1 q.1 in
-      (same_box t u q.0 (lines.End ∷ []) (lines.End ∷ []) (subst (λ (n : g.Box). Passes g t n) same p.2) q.2 e.1).0
+      boxes_have_one_tree q.0 b.first t u (subst (λ (n : g.Box). Passes g t n) same p.2) q.2 (ap (λ (ls : List Line). b.first ∷ ls) e.1)

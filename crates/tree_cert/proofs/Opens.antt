@@ -1,9 +1,9 @@
 -- A tree is closed exactly where its text has no line that leaves a box open.
-use Rattle.std.proofs.Common.{◌≡◌, ◌↔◌, ℕ, ◌+◌, List, [], ◌∷◌, ◌++◌, Option, Some, None, refl, sym, ap, ◌∙◌, append_assoc}
+use Rattle.std.proofs.Common.{◌≡◌, ℕ, ◌+◌, List, [], ◌∷◌, ◌++◌, None, refl, sym, ◌∙◌, append_assoc}
 use Rattle.tree_cert.specs.declared.line.Line.{Line}
 use Rattle.tree_cert.specs.declared.line.Line.TheVariants as lines
-use Rattle.tree_cert.specs.Tree.{Branch, ByGroup, ByArc, ByHalves, branch_line, Tree, Children, Then, Shut, Left, Split, NoChild, Child, box_lines, child_lines, tree_lines, IsClosed, AreClosed}
-use Rattle.tree_cert.specs.Texts.{open_from, first_open}
+use Rattle.tree_cert.specs.Tree.{Branch, ByGroup, ByArc, ByHalves, branch_line, Tree, Children, Then, Shut, Left, Split, NoChild, Child, box_lines, child_lines, IsClosed, AreClosed}
+use Rattle.tree_cert.specs.Texts.{open_from}
 use Rattle.tree_cert.specs.Laws.{ClosedTreesHaveNoOpenLine}
 
 branch_skipped : (n : ℕ) (f : Branch) (ls : List Line) → open_from n (branch_line f ∷ ls) ≡ open_from (n + 1) ls

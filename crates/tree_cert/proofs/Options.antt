@@ -1,5 +1,5 @@
 -- What an answer that is there came from.
-use Rattle.std.proofs.Common.{◌≡◌, Bool, true, false, cond, Option, Some, None, Result, Ok, Err, refl, ◌⊎◌, inl, inr}
+use Rattle.std.proofs.Common.{◌≡◌, Bool, true, false, cond, Option, Some, None, Result, Ok, Err, refl}
 use Rattle.tree_cert.specs.declared.fault.FaultKind.{FaultKind}
 use Rattle.tree_cert.specs.TreeRules.{Holds}
 use Rattle.tree_cert.specs.Place.{allowed}

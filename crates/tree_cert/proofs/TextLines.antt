@@ -1,30 +1,26 @@
 -- Lines with their line feeds, and the lines that bytes are.
-use Rattle.std.proofs.Common.{◌≡◌, ◌≢◌, ◌↔◌, ◌<◌, ◌≤◌, ◌-◌, ◌+◌, inl, inr, ℕ, zero, suc, List, [], ◌∷◌, ◌++◌, length, take, drop, get_or, map, Bool, true, false, cond, not, ◌&&◌, Option, Some, None, Result, Ok, Err, refl, sym, ap, subst, ◌∙◌, arith, append_assoc}
-use Rattle.std.specs.Prelude.{◌==◌, ◌^◌, nat_lt, slice_index, IfOk, codes}
-use Rattle.std.specs.Fmt.{decimal, signed_decimal}
+use Rattle.std.proofs.Common.{◌≡◌, ◌≢◌, ◌<◌, ◌-◌, ◌+◌, inl, inr, ℕ, List, [], ◌∷◌, ◌++◌, length, take, drop, get_or, map, Bool, true, false, cond, not, Option, Some, None, Result, Ok, Err, refl, sym, ap, subst, ◌∙◌, arith, append_assoc}
+use Rattle.std.specs.Prelude.{◌==◌, nat_lt, slice_index, codes}
 use Rattle.std.specs.List.{list_all, flat_map, concat, AllByRecursion}
-use Rattle.std.proofs.lemmas.Bool.{eqb-true, eqb-false, ne_eqb, cases_lt, and_parts, ltb-true}
+use Rattle.std.proofs.lemmas.Bool.{eqb-true, eqb-false, ne_eqb, cases_lt, and_parts}
 use Rattle.std.proofs.lemmas.List.{get_or_past, take_more, take_all, take_at, length-append, get_or-append-add, append-nil, drop_all}
 use Rattle.line_text.specs.Lines.{HasNoFeed}
 use Rattle.line_text.specs.Words.{joined}
-use Rattle.line_text.specs.Long.{fits_position, fits_long}
+use Rattle.line_text.specs.Numerals.{numeral}
 use Rattle.line_text.proofs.Fields.{IsVisible, visible_no_feed}
-use Rattle.line_text.proofs.LongNumbers.{from_fits}
 use Rattle.tree_cert.specs.declared.line.Closing.TheVariants.{Empty, Cut, At}
 use Rattle.tree_cert.specs.declared.line.Head.TheVariants.{Take, State, Half}
 use Rattle.tree_cert.specs.declared.line.Line.{Line}
 use Rattle.tree_cert.specs.declared.line.Line.TheVariants as lines
-use Rattle.tree_cert.specs.declared.fault.FaultKind.{FaultKind}
-use Rattle.tree_cert.specs.declared.fault.FaultKind.TheVariants.{NotTree, WideNumber}
 use Rattle.tree_cert.specs.declared.fault.LineFault.{LineFault}
 use Rattle.tree_cert.specs.declared.fault.LineFault.TheVariants as fault
-use Rattle.tree_cert.specs.Spelling.{end_text, first_word, other_words, spelling, fits_var, fits_line, has_ordered_cut, is_spelled, AreLines}
-use Rattle.tree_cert.specs.Fields.{◌>>=◌, Gives, IsRead, found}
-use Rattle.tree_cert.specs.Reading.{line_at, before_feed, within, line_of}
+use Rattle.tree_cert.specs.Spelling.{end_text, first_word, other_words, spelling, fits_line, has_ordered_cut, is_spelled, Spells}
+use Rattle.tree_cert.specs.Fields.{◌>>=◌, Gives, found}
+use Rattle.tree_cert.specs.Reading.{line_at, before_feed, within, line_of, answer_of, Means}
 use Rattle.tree_cert.specs.Texts.{pieces_after, pieces, Read, told, lines_in}
 use Rattle.tree_cert.specs.Laws.{LinesAreRead}
-use Rattle.tree_cert.proofs.FieldTexts.{bound_ok, found_ok, spaced, IsWord, fixed_word, position_word, long_word, var_word, rule_is_word, state_is_word, end_is_word}
-use Rattle.tree_cert.proofs.LineTexts.{line_again, line_takes}
+use Rattle.tree_cert.proofs.FieldTexts.{NeverWide, spaced, IsWord, fixed_word, position_word, long_word, var_word, rule_is_word, state_is_word, end_is_word}
+use Rattle.tree_cert.proofs.LineTexts.{fitted, line_again, line_takes, line_never}
 
 -- ---- one line
 
@@ -47,37 +43,68 @@ feed_takes bytes body e = by (slice_index bytes (length bytes - 1) == 10) refl e
     by true h k = ends (eqb-true (get_or bytes (length bytes - 1) 0) 10 h) (let q = k in cc)
     by false h k = absurd cc
 
-pub spelling_is_read : (l : Line) → is_spelled l ≡ true → line_of (spelling l) ≡ Ok l
+-- a spelled line is read as itself where its numbers fit, and else is too wide
+pub spelled_answer : (l : Line) → has_ordered_cut l ≡ true → line_of (spelling l) ≡ answer_of l
 unfolding line_of
-spelling_is_read l is = rw (feed_again (joined (first_word l) (other_words l)), line_again l is) refl
+spelled_answer l is = rw (feed_again (joined (first_word l) (other_words l)), line_again l is) (by (fits_line l))
+  where
+    by : (b : Bool) → within (cond b (Some l) None) ≡ cond b (Ok l) (Err fault.Wide)
+    by true = refl
+    by false = refl
 
-within_ok : (o : Option Line) (l : Line) → within o ≡ Ok l → o ≡ Some l
-within_ok None l e = absurd cc
-within_ok (Some m) l e = cc
+pub spelling_is_read : (l : Line) → is_spelled l ≡ true → line_of (spelling l) ≡ Ok l
+spelling_is_read l is = let p = and_parts (fits_line l) (has_ordered_cut l) is in spelled_answer l p.1 ∙ (let fits = p.0 in rw fits refl)
+
+-- what was read, but that its numbers may not fit, spells a line
+read_means : (bytes : List ℕ) (line : Line) (r : Result Line LineFault) → Spells bytes line → within (fitted line) ≡ r → Means bytes r
+read_means bytes line r is e = by (fits_line line) refl e
+  where
+    by : (b : Bool) → fits_line line ≡ b → within (cond b (Some line) None) ≡ r → Means bytes r
+    by true h k = subst (Means bytes) k (is, h)
+    by false h k = subst (Means bytes) k (line, is, h)
+
+-- what is of no form is no spelling
+unread : (bytes : List ℕ) → line_of bytes ≡ Err fault.NotLine → (l : Line) → Spells bytes l → ⊥
+unread bytes e l is = by (fits_line l) (sym e ∙ ap line_of is.text ∙ spelled_answer l is.ordered)
+  where
+    by : (b : Bool) → Err fault.NotLine ≡ cond b (Ok l) (Err fault.Wide) → ⊥
+    by true k = cc
+    by false k = cc
+
+pub line_means : (bytes : List ℕ) → Means bytes (line_of bytes)
+unfolding line_of
+line_means bytes = by (before_feed bytes) refl
+  where
+    at : (body : List ℕ) → bytes ≡ body ++ 10 ∷ [] → (r : Result (Option Line) LineFault) → line_at body ≡ r → line_of bytes ≡ (r >>= within) → Means bytes (r >>= within)
+    at body text (Ok o) e k =
+        let t = line_takes body o e in
+        let whole : bytes ≡ spelling t.line = text ∙ ap (λ (w : List ℕ). w ++ 10 ∷ []) t.text in
+        read_means bytes t.line (within o) (record { ordered = t.ordered; text = whole }) (ap within (sym t.read))
+    at body text (Err fault.NotLine) e k = unread bytes k
+    at body text (Err fault.Wide) e k = absurd (let no_wide = subst NeverWide e (line_never body) in cc)
+    at body text (Err fault.NoMemory) e k = tt
+
+    by : (o : Option (List ℕ)) → before_feed bytes ≡ o → Means bytes (found o >>= λ body. line_at body >>= within)
+    by None h = unread bytes (rw h refl)
+    by (Some body) h = at body (feed_takes bytes body h) (line_at body) refl (rw h refl)
 
 pub read_is_spelling : (bytes : List ℕ) (l : Line) → line_of bytes ≡ Ok l → (bytes ≡ spelling l) × (is_spelled l ≡ true)
-unfolding line_of
 read_is_spelling bytes l e =
-    let body = bound_ok (found (before_feed bytes)) (λ body. line_at body >>= within) l e in
-    let line = bound_ok (line_at body.0) within l body.2 in
-    let t = line_takes body.0 l (line.1 ∙ ap Ok (within_ok line.0 l line.2)) in
-    (feed_takes bytes body.0 (found_ok (before_feed bytes) body.0 body.1) ∙ ap (λ (k : List ℕ). k ++ 10 ∷ []) t.0, t.1)
+    let m = subst (Means bytes) e (line_means bytes) in
+    let fits = m.1 in
+    let ordered = m.0.ordered in
+    (m.0.text, rw (fits, ordered) refl)
 
-pub read_line_read : (bytes : List ℕ) (r : Result Line LineFault) → Gives (λ l. l) r (line_of bytes) → IfOk r (λ l. (bytes ≡ spelling l) × (is_spelled l ≡ true))
-read_line_read bytes (Ok l) h = read_is_spelling bytes l h
-read_line_read bytes (Err e) h = tt
+-- ---- what an answer says, unless memory ran out
 
-pub read_line_spelled : (bytes : List ℕ) (r : Result Line LineFault) → Gives (λ l. l) r (line_of bytes) → (l : Line) → is_spelled l ≡ true → bytes ≡ spelling l → IsRead l r
-read_line_spelled bytes r h l is e = by r h
-  where
-    read : line_of bytes ≡ Ok l
-    read = ap line_of e ∙ spelling_is_read l is
+pub answer_means : (bytes : List ℕ) (r : Result Line LineFault) → Gives (λ l. l) r (line_of bytes) → Means bytes r
+answer_means bytes (Ok l) h = subst (Means bytes) h (line_means bytes)
+answer_means bytes (Err fault.NoMemory) h = tt
+answer_means bytes (Err fault.NotLine) h = subst (Means bytes) h (line_means bytes)
+answer_means bytes (Err fault.Wide) h = subst (Means bytes) h (line_means bytes)
 
-    by : (r : Result Line LineFault) → Gives (λ l. l) r (line_of bytes) → IsRead l r
-    by (Ok m) k = let a = read in cc
-    by (Err fault.NoMemory) k = refl
-    by (Err fault.NotLine) k = absurd (let a = read in cc)
-    by (Err fault.Wide) k = absurd (let a = read in cc)
+pub answer_given : (bytes : List ℕ) (r : Result Line LineFault) → Gives (λ l. l) r (line_of bytes) → (l : Line) → Spells bytes l → Gives (λ l. l) r (answer_of l)
+answer_given bytes r h l is = subst (Gives (λ l. l) r) (ap line_of is.text ∙ spelled_answer l is.ordered) h
 
 -- ---- pieces
 
@@ -143,40 +170,28 @@ words_feedless : (ws : List (List ℕ)) → AreWords ws → HasNoFeed (spaced ws
 words_feedless [] h = refl
 words_feedless (w ∷ ws) h = feedless w (spaced ws) (visible_no_feed w h.0.visible) (words_feedless ws h.1)
 
-small : (n : ℕ) → fits_position n ≡ true → n < 2 ^ 32
-small n e = ltb-true n (2 ^ 32) e
-
-node_words : (ns : List ℕ) → list_all fits_position ns ≡ true → AreWords (map decimal ns)
-node_words [] e = tt
-node_words (n ∷ ns) e =
-    let p = and_parts (fits_position n) (list_all fits_position ns) e in
-    (position_word n (small n p.0), node_words ns p.1)
+node_words : (ns : List ℕ) → AreWords (map numeral ns)
+node_words [] = tt
+node_words (n ∷ ns) = (position_word n, node_words ns)
 
 letters : (w : List ℕ) → list_all (λ b. nat_lt b 128) w ≡ true → IsVisible w → 0 < length w → IsWord w
 letters w ascii visible some = fixed_word w ascii visible some
 
-other_are_words : (l : Line) → fits_line l ≡ true → AreWords (other_words l)
-other_are_words lines.First e = (letters (codes "1") refl refl (omega arith), tt)
-other_are_words lines.FirstSixteenths e = (letters (codes "2") refl refl (omega arith), tt)
-other_are_words (lines.Step s) e =
-    let p = and_parts (fits_var s.var && fits_long s.value) (fits_position s.place) e in
-    let q = and_parts (fits_var s.var) (fits_long s.value) p.0 in
-    (var_word s.var q.0, (long_word s.value (from_fits s.value q.1), (rule_is_word s.rule, (position_word s.place (small s.place p.1), tt))))
-other_are_words (lines.Close (Empty x)) e = (letters (codes "empty") refl refl (omega arith), (var_word x e, tt))
-other_are_words (lines.Close (Cut ns)) e = (letters (codes "cut") refl refl (omega arith), node_words ns e)
-other_are_words (lines.Close (At rule place)) e = (rule_is_word rule, (position_word place (small place e), tt))
-other_are_words lines.LeftOpen e = tt
-other_are_words (lines.Group k) e = (position_word k (small k e), tt)
-other_are_words (lines.Arc a) e = (position_word a (small a e), tt)
-other_are_words (lines.Halve x) e = (var_word x e, tt)
-other_are_words (lines.Head (Take k j)) e =
-    let p = and_parts (fits_position k) (fits_position j) e in
-    (position_word k (small k p.0), (position_word j (small j p.1), tt))
-other_are_words (lines.Head (State a state)) e = (position_word a (small a e), (state_is_word state, tt))
-other_are_words (lines.Head (Half x low c)) e =
-    let p = and_parts (fits_var x) (fits_long c) e in
-    (var_word x p.0, (end_is_word low, (long_word c (from_fits c p.1), tt)))
-other_are_words lines.End e = tt
+other_are_words : (l : Line) → AreWords (other_words l)
+other_are_words lines.First = (letters (codes "1") refl refl (omega arith), tt)
+other_are_words lines.FirstSixteenths = (letters (codes "2") refl refl (omega arith), tt)
+other_are_words (lines.Step s) = (var_word s.var, (long_word s.value, (rule_is_word s.rule, (position_word s.place, tt))))
+other_are_words (lines.Close (Empty x)) = (letters (codes "empty") refl refl (omega arith), (var_word x, tt))
+other_are_words (lines.Close (Cut ns)) = (letters (codes "cut") refl refl (omega arith), node_words ns)
+other_are_words (lines.Close (At rule place)) = (rule_is_word rule, (position_word place, tt))
+other_are_words lines.LeftOpen = tt
+other_are_words (lines.Group k) = (position_word k, tt)
+other_are_words (lines.Arc a) = (position_word a, tt)
+other_are_words (lines.Halve x) = (var_word x, tt)
+other_are_words (lines.Head (Take k j)) = (position_word k, (position_word j, tt))
+other_are_words (lines.Head (State a state)) = (position_word a, (state_is_word state, tt))
+other_are_words (lines.Head (Half x low c)) = (var_word x, (end_is_word low, (long_word c, tt)))
+other_are_words lines.End = tt
 
 first_feedless : (l : Line) → HasNoFeed (first_word l)
 first_feedless lines.First = refl
@@ -192,8 +207,8 @@ first_feedless (lines.Head (State a state)) = refl
 first_feedless (lines.Head (Half x low c)) = refl
 first_feedless lines.End = refl
 
-pub line_feedless : (l : Line) → fits_line l ≡ true → HasNoFeed (joined (first_word l) (other_words l))
-line_feedless l e = feedless (first_word l) (spaced (other_words l)) (first_feedless l) (words_feedless (other_words l) (other_are_words l e))
+pub line_feedless : (l : Line) → HasNoFeed (joined (first_word l) (other_words l))
+line_feedless l = feedless (first_word l) (spaced (other_words l)) (first_feedless l) (words_feedless (other_words l) (other_are_words l))
 
 -- ---- lines and their texts
 
@@ -204,7 +219,7 @@ spelled_lines (l ∷ ls) e =
     let body = joined (first_word l) (other_words l) in
     let rest = flat_map spelling ls in
     let cut : pieces (spelling l ++ rest) ≡ spelling l ∷ pieces rest =
-    ap pieces (append_assoc body (10 ∷ []) rest) ∙ pieces_cut body rest (line_feedless l (and_parts (fits_line l) (has_ordered_cut l) p.0).0) in
+    ap pieces (append_assoc body (10 ∷ []) rest) ∙ pieces_cut body rest (line_feedless l) in
     ap (map (λ piece. told (line_of piece))) cut
     ∙ ap (λ (r : Read). r ∷ lines_in rest) (ap told (spelling_is_read l p.0))
     ∙ ap (λ (rs : List Read). Ok l ∷ rs) (spelled_lines ls p.1)

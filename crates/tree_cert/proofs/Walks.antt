@@ -1,13 +1,12 @@
 -- Lines are walked to the end exactly where they are the text of a tree that passes.
-use Rattle.std.proofs.Common.{◌≡◌, ◌↔◌, ℕ, Bool, true, false, cond, List, [], ◌∷◌, ◌++◌, map, Option, Some, None, Result, Ok, Err, refl, sym, ap, subst, ◌∙◌, append_assoc}
-use Rattle.tree_cert.specs.declared.fault.FaultKind.{FaultKind}
-use Rattle.tree_cert.specs.declared.fault.FaultKind.TheVariants.{NotTree, BadStep, WrongBranch, WrongEnd}
+use Rattle.std.proofs.Common.{◌≡◌, Bool, true, false, cond, List, [], ◌∷◌, ◌++◌, map, Ok, refl, sym, ap, subst, ◌∙◌, append_assoc}
+use Rattle.tree_cert.specs.declared.fault.FaultKind.TheVariants.{NotTree, BadStep, WrongBranch}
 use Rattle.tree_cert.specs.declared.line.Line.{Line}
 use Rattle.tree_cert.specs.declared.line.Line.TheVariants as lines
-use Rattle.tree_cert.specs.Tree.{Branch, ByGroup, ByArc, ByHalves, branch_line, Tree, Children, Then, Shut, Left, Split, NoChild, Child, box_lines, child_lines, tree_lines}
-use Rattle.tree_cert.specs.TreeRules.{TreeRules, Holds, Passes, PassAll, IsTextOf}
-use Rattle.tree_cert.specs.Place.{Place, Start, Inside, Expecting, Whole, Ended, after, allowed, read, read_first, read_branch, read_inside, read_expected, read_whole, read_ended}
-use Rattle.tree_cert.specs.Texts.{◌>>=◌, walk}
+use Rattle.tree_cert.specs.Tree.{Branch, ByGroup, ByArc, ByHalves, branch_line, Tree, Children, Then, Shut, Left, Split, NoChild, Child, box_lines, child_lines}
+use Rattle.tree_cert.specs.TreeRules.{TreeRules, Passes, PassAll, IsTextOf}
+use Rattle.tree_cert.specs.Place.{Place, Start, Inside, Expecting, Whole, Ended, after, read, read_first, read_branch, read_inside, read_expected, read_whole, read_ended}
+use Rattle.tree_cert.specs.Texts.{walk}
 use Rattle.tree_cert.specs.Laws.{WalksAreTexts}
 use Rattle.tree_cert.proofs.Options.{holds_some, some_holds, allowed_ok, bind_ok, cond_ok}
 

@@ -8,7 +8,6 @@ use Rattle.gas_model.specs.declared.rows.Var.{Var}
 use Rattle.gas_model.specs.declared.rows.Var.TheVariants.{Flow, Square}
 use Rattle.line_text.specs.Long.{position_at, long_at}
 use Rattle.line_text.specs.Words as words
-use Rattle.tree_cert.specs.declared.line.Line.{Line}
 use Rattle.tree_cert.specs.declared.line.Rule.{Rule}
 use Rattle.tree_cert.specs.declared.line.Rule.TheVariants as rules
 use Rattle.tree_cert.specs.declared.fault.LineFault.{LineFault}
@@ -30,11 +29,6 @@ Fails fault.Wide read = read ≡ Err fault.Wide
 abbrev pub Gives : {X Y : Type 0} → (X → Y) → Result X LineFault → Result Y LineFault → Type 0
 Gives view (Ok x) read = read ≡ Ok (view x)
 Gives view (Err e) read = Fails e read
-
--- this line is answered, unless memory ran out
-abbrev pub IsRead : Line → Result Line LineFault → Type 0
-IsRead l (Ok x) = x ≡ l
-IsRead l (Err e) = e ≡ fault.NoMemory
 
 abbrev pub found : {A : Type 0} → Option A → Result A LineFault
 found None = Err fault.NotLine

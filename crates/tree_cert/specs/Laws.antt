@@ -1,8 +1,8 @@
 -- What holds of all trees and texts.
-use Rattle.std.specs.Prelude.{◌≡◌, ◌↔◌, ℕ, List, map, Option, None, Result, Ok}
+use Rattle.std.specs.Prelude.{◌≡◌, ◌↔◌, ℕ, List, map, None, Ok}
 use Rattle.tree_cert.specs.declared.line.Line.{Line}
 use Rattle.tree_cert.specs.Tree.{Tree, IsClosed, tree_lines}
-use Rattle.tree_cert.specs.TreeRules.{TreeRules, IsTextOf}
+use Rattle.tree_cert.specs.TreeRules.{TreeRules, Passes, IsTextOf}
 use Rattle.tree_cert.specs.Place.{Start, Ended}
 use Rattle.tree_cert.specs.Spelling.{AreLines}
 use Rattle.tree_cert.specs.Texts.{Finding, IsFinding, first_open, lines_in, walk}
@@ -11,7 +11,11 @@ use Rattle.tree_cert.specs.Texts.{Finding, IsFinding, first_open, lines_in, walk
 abbrev pub WalksAreTexts : TreeRules → Type 0
 WalksAreTexts g = (ls : List Line) → walk g Start (map Ok ls) ≡ Ok Ended ↔ ((t : Tree) × IsTextOf g ls t)
 
--- a text is that of one tree alone
+-- at each box, a text is that of one tree alone that passes there, with boxes left open or without
+abbrev pub BoxesHaveOneTree : TreeRules → Type 0
+BoxesHaveOneTree g = (b : g.Box) (first : Line) (t u : Tree) → Passes g t b → Passes g u b → tree_lines first t ≡ tree_lines first u → t ≡ u
+
+-- so is it at the opening box
 abbrev pub TextsHaveOneTree : TreeRules → Type 0
 TextsHaveOneTree g = (ls : List Line) (t u : Tree) → IsTextOf g ls t → IsTextOf g ls u → t ≡ u
 

@@ -1,7 +1,7 @@
 -- Where the next line of a text stands, and what a line leads to there.
-use Rattle.std.specs.Prelude.{ℕ, Bool, cond, List, [], ◌∷◌, Option, Some, None, Result, Ok, Err}
+use Rattle.std.specs.Prelude.{cond, List, [], ◌∷◌, Option, Some, None, Result, Ok, Err}
 use Rattle.tree_cert.specs.declared.fault.FaultKind.{FaultKind}
-use Rattle.tree_cert.specs.declared.fault.FaultKind.TheVariants.{NotTree, WideNumber, BadStep, WrongBranch, WrongEnd}
+use Rattle.tree_cert.specs.declared.fault.FaultKind.TheVariants.{NotTree, BadStep, WrongBranch, WrongEnd}
 use Rattle.tree_cert.specs.declared.line.Line.{Line}
 use Rattle.tree_cert.specs.declared.line.Line.TheVariants as lines
 use Rattle.tree_cert.specs.Tree.{Branch, ByGroup, ByArc, ByHalves}

@@ -1,17 +1,13 @@
 -- What bytes are read as: a line, or what is wrong with its form.
-use Rattle.std.specs.Prelude.{ℕ, ◌-◌, ◌==◌, Bool, true, false, List, [], ◌∷◌, length, take, drop, codes, if◌then◌else◌, slice_index, Option, Some, None, option_map, option_and_then, Result, Ok, Err, ℤ}
+use Rattle.std.specs.Prelude.{◌≡◌, ℕ, ◌-◌, ◌==◌, Bool, true, false, List, [], ◌∷◌, length, take, drop, codes, if◌then◌else◌, slice_index, Option, Some, None, option_map, option_and_then, Result, Ok, Err, ℤ}
 use Rattle.std.specs.List.{slice_split, list_all, find}
 use Rattle.std.specs.Str.{bytes_eq}
-use Rattle.gas_model.specs.declared.rows.ArcState.{ArcState}
 use Rattle.gas_model.specs.declared.rows.Var.{Var}
 use Rattle.line_text.specs.Numerals.{natural}
 use Rattle.line_text.specs.Words.{word_len}
 use Rattle.line_text.specs.Long.{fits_position, fitting}
 use Rattle.tree_cert.specs.declared.line.Rule.{Rule}
-use Rattle.tree_cert.specs.declared.line.Step.{Step}
-use Rattle.tree_cert.specs.declared.line.Closing.{Closing}
 use Rattle.tree_cert.specs.declared.line.Closing.TheVariants.{Empty, Cut, At}
-use Rattle.tree_cert.specs.declared.line.Head.{Head}
 use Rattle.tree_cert.specs.declared.line.Head.TheVariants.{Take, State, Half}
 use Rattle.tree_cert.specs.declared.line.Line.{Line}
 use Rattle.tree_cert.specs.declared.line.Line.TheVariants as lines
@@ -19,7 +15,7 @@ use Rattle.tree_cert.specs.declared.fault.LineFault.{LineFault}
 use Rattle.tree_cert.specs.declared.fault.LineFault.TheVariants as fault
 use Rattle.tree_cert.specs.declared.words.LineWord.{LineWord}
 use Rattle.tree_cert.specs.declared.words.LineWord.TheVariants as first
-use Rattle.tree_cert.specs.Spelling.{is_node_list}
+use Rattle.tree_cert.specs.Spelling.{is_node_list, fits_line, Spells}
 use Rattle.tree_cert.specs.Fields.{◌>>=◌, found, text_field, ended, position_field, number_field, var_field, rule_at, rule_field, state_field, end_field}
 
 -- ---- lines of fields, some of which may not fit
@@ -212,3 +208,17 @@ line_of bytes = do
   body ← found (before_feed bytes)
   line ← line_at body
   within line
+
+-- ---- what an answer says of the bytes
+
+-- the line that a spelled one is read as: itself, where its numbers fit
+abbrev pub answer_of : Line → Result Line LineFault
+answer_of l = if fits_line l then Ok l else Err fault.Wide
+
+-- Bytes that were read spell the line, whose numbers fit. Bytes that are too wide spell a line of which a number doesn't
+-- fit. Bytes that are no line spell none, whatever its numbers.
+abbrev pub Means : List ℕ → Result Line LineFault → Type 0
+Means bytes (Ok l) = Spells bytes l × (fits_line l ≡ true)
+Means bytes (Err fault.Wide) = (l : Line) × Spells bytes l × (fits_line l ≡ false)
+Means bytes (Err fault.NotLine) = (l : Line) → Spells bytes l → ⊥
+Means bytes (Err fault.NoMemory) = Unit {0}

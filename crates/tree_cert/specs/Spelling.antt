@@ -1,6 +1,6 @@
 -- The one spelling of a line.
-use Rattle.std.specs.Prelude.{◌≡◌, ℕ, ◌^◌, nat_lt, Bool, true, false, ◌&&◌, List, [], ◌∷◌, ◌++◌, map, codes, ℤ, FitsSigned}
-use Rattle.std.specs.Fmt.{decimal, signed_decimal}
+use Rattle.std.specs.Prelude.{◌≡◌, ℕ, nat_lt, Bool, true, false, ◌&&◌, List, [], ◌∷◌, ◌++◌, map, codes}
+use Rattle.line_text.specs.Numerals.{numeral, signed_numeral}
 use Rattle.std.specs.List.{flat_map, list_all}
 use Rattle.gas_model.specs.declared.rows.ArcState.{ArcState}
 use Rattle.gas_model.specs.declared.rows.ArcState.TheVariants.{Opened, Shut, Active, Bypass}
@@ -12,15 +12,14 @@ use Rattle.tree_cert.specs.declared.line.Rule.{Rule}
 use Rattle.tree_cert.specs.declared.line.Rule.TheVariants as rules
 use Rattle.tree_cert.specs.declared.line.Closing.{Closing}
 use Rattle.tree_cert.specs.declared.line.Closing.TheVariants.{Empty, Cut, At}
-use Rattle.tree_cert.specs.declared.line.Head.{Head}
 use Rattle.tree_cert.specs.declared.line.Head.TheVariants.{Take, State, Half}
 use Rattle.tree_cert.specs.declared.line.Line.{Line}
 use Rattle.tree_cert.specs.declared.line.Line.TheVariants as lines
 
 -- a flow is q and the position of its arc, a square s and the position of its node
 abbrev pub var_text : Var → List ℕ
-var_text (Flow a) = 113 ∷ decimal a
-var_text (Square n) = 115 ∷ decimal n
+var_text (Flow a) = 113 ∷ numeral a
+var_text (Square n) = 115 ∷ numeral n
 
 abbrev pub rule_text : Rule → List ℕ
 rule_text rules.Balance = codes "balance"
@@ -66,22 +65,22 @@ first_word lines.End = codes "end"
 
 abbrev pub closing_words : Closing → List (List ℕ)
 closing_words (Empty x) = codes "empty" ∷ var_text x ∷ []
-closing_words (Cut ns) = codes "cut" ∷ map decimal ns
-closing_words (At rule place) = rule_text rule ∷ decimal place ∷ []
+closing_words (Cut ns) = codes "cut" ∷ map numeral ns
+closing_words (At rule place) = rule_text rule ∷ numeral place ∷ []
 
 -- the words after it
 abbrev pub other_words : Line → List (List ℕ)
 other_words lines.First = codes "1" ∷ []
 other_words lines.FirstSixteenths = codes "2" ∷ []
-other_words (lines.Step s) = var_text s.var ∷ signed_decimal s.value ∷ rule_text s.rule ∷ decimal s.place ∷ []
+other_words (lines.Step s) = var_text s.var ∷ signed_numeral s.value ∷ rule_text s.rule ∷ numeral s.place ∷ []
 other_words (lines.Close c) = closing_words c
 other_words lines.LeftOpen = []
-other_words (lines.Group k) = decimal k ∷ []
-other_words (lines.Arc a) = decimal a ∷ []
+other_words (lines.Group k) = numeral k ∷ []
+other_words (lines.Arc a) = numeral a ∷ []
 other_words (lines.Halve x) = var_text x ∷ []
-other_words (lines.Head (Take k j)) = decimal k ∷ decimal j ∷ []
-other_words (lines.Head (State a state)) = decimal a ∷ state_text state ∷ []
-other_words (lines.Head (Half x low c)) = var_text x ∷ end_text low ∷ signed_decimal c ∷ []
+other_words (lines.Head (Take k j)) = numeral k ∷ numeral j ∷ []
+other_words (lines.Head (State a state)) = numeral a ∷ state_text state ∷ []
+other_words (lines.Head (Half x low c)) = var_text x ∷ end_text low ∷ signed_numeral c ∷ []
 other_words lines.End = []
 
 -- the words with one space between two of them, and a line feed
@@ -125,6 +124,11 @@ fits_line line = true
 
 abbrev pub is_spelled : Line → Bool
 is_spelled l = fits_line l && has_ordered_cut l
+
+-- the bytes are the one spelling of this line, whose numbers may have any size
+pub record Spells (bytes : List ℕ) (l : Line) : Type 0 where
+  pub ordered : has_ordered_cut l ≡ true
+  pub text : bytes ≡ spelling l
 
 -- the bytes are these lines, each in its one spelling
 pub record AreLines (bytes : List ℕ) (ls : List Line) : Type 0 where

@@ -1,7 +1,7 @@
 -- What writing adds, and the fields that are written.
-use Rattle.std.specs.Prelude.{◌≡◌, ℕ, Bool, true, List, [], ◌∷◌, ◌++◌, Result, Ok, Err}
-use Rattle.std.specs.Fmt.{decimal, signed_decimal}
-use Rattle.std.specs.List.{flat_map, list_all}
+use Rattle.std.specs.Prelude.{◌≡◌, ℕ, Bool, true, List, ◌∷◌, ◌++◌, Result, Ok, Err}
+use Rattle.line_text.specs.Numerals.{numeral, signed_numeral}
+use Rattle.std.specs.List.{flat_map}
 use Rattle.gas_model.specs.declared.collections.NoMemory.{NoMemory}
 use Rattle.line_text.specs.Long.{fits_position, fits_long}
 use Rattle.tree_cert.specs.declared.writing.Field.{Field}
@@ -18,8 +18,8 @@ Adds (Ok u) before after piece = after ≡ before ++ piece
 Adds (Err e) before after piece = AddsFront before after piece
 
 abbrev pub field_text : Field → List ℕ
-field_text (Position n) = decimal n
-field_text (Number z) = signed_decimal z
+field_text (Position n) = numeral n
+field_text (Number z) = signed_numeral z
 field_text (Variable x) = var_text x
 field_text (Named rule) = rule_text rule
 field_text (InState state) = state_text state

@@ -1,6 +1,6 @@
 // What holds of all trees and texts, by any rules, on functions that do nothing.
 ghost use Rattle.tree_cert.specs.TreeRules.{TreeRules};
-ghost use Rattle.tree_cert.specs.Laws.{WalksAreTexts, TextsHaveOneTree, FindingsExist, FindingsAreUnique, ClosedTreesHaveNoOpenLine, LinesAreRead};
+ghost use Rattle.tree_cert.specs.Laws.{WalksAreTexts, BoxesHaveOneTree, TextsHaveOneTree, FindingsExist, FindingsAreUnique, ClosedTreesHaveNoOpenLine, LinesAreRead};
 
 /// Rules of trees, which only proofs know.
 pub trait Rules {
@@ -12,9 +12,10 @@ pub fn walks_are_texts<R: Rules>()
     ensures { WalksAreTexts R.rules }
 {}
 
-/// A text is that of at most one tree that passes.
+/// A text is that of at most one tree that passes: at any box, and so at the opening box of its first line.
 pub fn texts_have_one_tree<R: Rules>()
-    ensures { TextsHaveOneTree R.rules }
+    ensures at_any_box { BoxesHaveOneTree R.rules }
+    ensures at_the_opening { TextsHaveOneTree R.rules }
 {}
 
 /// Bytes are the text of a tree that passes with no box left open, or of one that passes with an open box, or they have

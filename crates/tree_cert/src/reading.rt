@@ -1,9 +1,9 @@
 // Lines as they are read.
-ghost use Rattle.std.specs.Prelude.{◌≡◌, true, IfOk, option_map};
+ghost use Rattle.std.specs.Prelude.{◌≡◌, option_map};
 ghost use Rattle.tree_cert.specs.declared.line.Line.{Line as LineOf};
-ghost use Rattle.tree_cert.specs.Fields.{Gives, IsRead};
-ghost use Rattle.tree_cert.specs.Spelling.{spelling, is_spelled};
-ghost use Rattle.tree_cert.specs.Reading.{step_of, step_at, empty_at, cut_at, rule_closing_at, closing_at, lone, of_position, halve_at, take_of, take_at, state_at, half_of, half_at, first_line, first_at, after_word, line_at, before_feed, line_of};
+ghost use Rattle.tree_cert.specs.Fields.{Gives};
+ghost use Rattle.tree_cert.specs.Spelling.{Spells};
+ghost use Rattle.tree_cert.specs.Reading.{step_of, step_at, empty_at, cut_at, rule_closing_at, closing_at, lone, of_position, halve_at, take_of, take_at, state_at, half_of, half_at, first_line, first_at, after_word, line_at, before_feed, line_of, answer_of, Means};
 
 use crate::fault::LineFault;
 use crate::fields::{
@@ -265,14 +265,16 @@ fn line_in(alloc: Global, bytes: &[u8]) -> Result<Line, LineFault>
 /// strictly, and are at least one. C is a number: `0`, or digits with no zero in front, after a `-` where it is below 0.
 /// The others are positions: numbers without a `-`.
 ///
-/// Bytes of no such form, or without their line feed, are `NotLine`. Bytes of the form with a number outside 128 signed
-/// bits, or a position past 4,294,967,295, are `Wide`; whether nodes ascend is judged by the numbers as they are written.
+/// Bytes that spell no line, whatever the size of its numbers, are `NotLine`; so are bytes without their line feed. Bytes
+/// that spell a line with a number outside 128 signed bits, or a position past 4,294,967,295, are `Wide`; the nodes of
+/// its cut ascend too, however large they are.
 pub fn read_line(alloc: Global, bytes: &[u8]) -> Result<Line, LineFault>
     ensures exact { Gives (λ l. l) result (line_of bytes.now) }
-    // What is read was spelled so.
-    ensures read { IfOk result (λ l. (bytes.now ≡ spelling l) × (is_spelled l ≡ true)) }
-    // What is spelled so is read.
-    ensures spelled { (l : LineOf) → is_spelled l ≡ true → bytes.now ≡ spelling l → IsRead l result }
+    // A line that is answered is spelled so, and fits. `Wide`: a line with a number that doesn't fit is spelled so.
+    // `NotLine`: no line is spelled so.
+    ensures means { Means bytes.now result }
+    // What is spelled so is answered: the line where its numbers fit, and else `Wide`.
+    ensures spelled { (l : LineOf) → Spells bytes.now l → Gives (λ l. l) result (answer_of l) }
 {
     line_in(alloc, bytes)
 }

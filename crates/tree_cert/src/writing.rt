@@ -1,6 +1,6 @@
 // Lines as they are written.
 ghost use Rattle.std.specs.Prelude.{◌≡◌, ◌∷◌, ◌++◌, [], true, IfOk, OnOk, OnErr, map};
-ghost use Rattle.std.specs.Fmt.{decimal};
+ghost use Rattle.line_text.specs.Numerals.{numeral};
 ghost use Rattle.std.specs.List.{flat_map, list_all};
 ghost use Rattle.line_text.specs.Long.{fits_position};
 ghost use Rattle.tree_cert.specs.declared.line.Closing.TheVariants.{Cut};
@@ -78,7 +78,7 @@ fn put_fields(out: &mut Bytes, fields: &[Field]) -> Result<(), NoMemory>
 }
 
 fn put_nodes(out: &mut Bytes, nodes: &[u32]) -> Result<(), NoMemory>
-    ensures text { Adds result out.old out.new (flat_map (λ n. 32 ∷ decimal n) nodes.now) }
+    ensures text { Adds result out.old out.new (flat_map (λ n. 32 ∷ numeral n) nodes.now) }
     ensures fits { OnOk result (list_all fits_position nodes.now ≡ true) }
 {
     for node in nodes {

@@ -1,4 +1,4 @@
-use Rattle.std.proofs.Common.{◌≡◌, Some, true, false, length, nat_lt, refl, sym, ap, ◌∙◌}
+use Rattle.std.proofs.Common.{◌≡◌, true, false, nat_lt, refl, sym, ap, ◌∙◌}
 use Rattle.std.specs.Str.Parse.{digits_value}
 use Rattle.tree_cert.proofs.NodeLists.{more_at, first_is, next_is, node_is, node_digits, numeral_text, more_gone, nodes_gone, rest_shorter, some_bytes}
 use Rattle.tree_cert.proofs.nodes.nodes_at.Goals as goal
