@@ -12,3 +12,6 @@ mod walking;
 
 pub use laws::one_shape;
 pub use shape::Shape;
+
+#[cfg(test)]
+mod tests;
