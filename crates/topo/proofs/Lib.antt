@@ -1,0 +1,17 @@
+pub mod Those
+pub mod Fixed
+pub mod Firsts
+pub mod Labels
+pub mod Climb
+pub mod Acyclic
+pub mod Growth
+pub mod Placed
+pub mod Reached
+pub mod Rounds
+pub mod Spanned
+pub mod Walked
+pub mod Several
+pub mod Laid
+pub mod OnlyOne
+pub mod Ends
+pub mod Shaped

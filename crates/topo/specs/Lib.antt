@@ -1,0 +1,9 @@
+pub mod Graphs
+pub mod States
+pub mod Walks
+pub mod Roles
+pub mod Forests
+pub mod Split
+pub mod Shapes
+pub mod Kept
+pub mod Laws
