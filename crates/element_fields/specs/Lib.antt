@@ -1,0 +1,5 @@
+pub mod Answers
+pub mod Lookup
+pub mod Names
+pub mod Quantities
+pub mod Files
