@@ -1,4 +1,5 @@
 pub mod Drafts
+pub mod Formed
 pub mod Grouped
 pub mod KindTexts
 pub mod Passing

@@ -1,19 +1,19 @@
 -- What the text of fields reads as, and which text reads as fields.
-use Rattle.std.proofs.Common.{◌≡◌, ◌<◌, ℕ, List, [], ◌∷◌, ◌++◌, length, map, Bool, true, false, cond, not, ◌&&◌, Option, Some, None, Result, Ok, Err, ℤ, pos, negsuc, refl, sym, ap, subst, ◌∙◌, arith}
-use Rattle.std.specs.Prelude.{◌==◌, nat_le, FitsSigned}
-use Rattle.std.specs.Fmt.{signed_decimal}
-use Rattle.std.specs.Int.{w64}
+use Rattle.std.proofs.Common.{◌≡◌, ◌<◌, ◌^◌, ◌-◌, ℕ, List, [], ◌∷◌, ◌++◌, length, map, Bool, true, false, cond, not, ◌&&◌, Option, Some, None, Result, Ok, Err, ℤ, pos, negsuc, refl, sym, ap, subst, ◌∙◌, arith}
+use Rattle.std.specs.Prelude.{◌==◌, nat_le}
+use Rattle.std.specs.Int.{w64, saturate_signed}
 use Rattle.std.specs.List.{list_all}
 use Rattle.std.specs.Str.{is_utf8}
 use Rattle.std.proofs.lemmas.Bool.{eqb-true}
 use Rattle.std.proofs.lemmas.Bool.Decides.{nat_tests}
 use Rattle.std.proofs.lemmas.Int.{ints}
+use lib.Signed.{mag}
 use Rattle.gas_model.specs.Limits.{is_id_byte, has_id_form, is_id, is_pressure, is_difference, is_flow, is_drag_part, is_ratio_part}
 use Rattle.gas_model.specs.declared.rows.Drag.{Drag}
-use Rattle.line_text.specs.Numerals.{IsWithin}
-use Rattle.line_text.specs.Words.{word_len}
+use Rattle.line_text.specs.Numerals.{signed_numeral}
+use Rattle.line_text.specs.Words.{word_len, is_field}
 use Rattle.line_text.specs.Words as words
-use Rattle.line_text.proofs.Fields.{IsVisible, and_parts, field_again, field_takes, number_field_again, number_field_takes}
+use Rattle.line_text.proofs.Fields.{IsVisible, and_parts, visible_field, field_again, field_takes, field_form, number_field_again, number_field_takes}
 use Rattle.flat_text.specs.declared.fault.LineFault.{LineFault}
 use Rattle.flat_text.specs.declared.fault.LineFault.TheVariants as fault
 use Rattle.flat_text.specs.Spelling.{spaced}
@@ -36,11 +36,30 @@ found_some : {A : Type 0} (o : Option A) (y : A) → found o ≡ Ok y → o ≡ 
 found_some None y e = absurd cc
 found_some (Some x) y e = let same : x ≡ y = cc in ap (λ x. Some x) same
 
-pub text_takes : (bytes : List ℕ) (x : List ℕ × List ℕ) → text_field bytes ≡ Ok x → bytes ≡ 32 ∷ (x.0 ++ x.1)
-text_takes bytes x e = field_takes bytes x.0 x.1 (found_some (words.field_at bytes) x e)
+-- a text that was read as a field
+pub record IsText (bytes w rest : List ℕ) : Type 0 where
+  pub form : is_field w ≡ true
+  pub text : bytes ≡ 32 ∷ (w ++ rest)
 
-pub number_takes : (bytes : List ℕ) (x : ℤ × List ℕ) → number_field bytes ≡ Ok x → IsWithin x.0 → bytes ≡ 32 ∷ (signed_decimal x.0 ++ x.1)
-number_takes bytes x e within = number_field_takes bytes x.0 x.1 (found_some (words.number_field bytes) x e) within
+pub text_takes : (bytes : List ℕ) (x : List ℕ × List ℕ) → text_field bytes ≡ Ok x → IsText bytes x.0 x.1
+text_takes bytes x e =
+    let is = found_some (words.field_at bytes) x e in
+    record { form = field_form bytes x.0 x.1 is; text = field_takes bytes x.0 x.1 is }
+
+-- the nearest number of 64 bits, as which a number is read
+abbrev pub near : ℤ → ℤ
+near z = saturate_signed w64 z
+
+-- a number that was read as the nearest one
+pub record IsNumber (bytes : List ℕ) (y : ℤ) (rest : List ℕ) : Type 0 where
+  pub number : ℤ
+  pub text : bytes ≡ 32 ∷ (signed_numeral number ++ rest)
+  pub read : y ≡ near number
+
+pub number_takes : (bytes : List ℕ) (x : ℤ × List ℕ) → number_field bytes ≡ Ok x → IsNumber bytes x.0 x.1
+number_takes bytes x e =
+    let t = number_field_takes bytes x.0 x.1 (found_some (words.number_field bytes) x e) in
+    record { number = t.0; text = t.1; read = t.2 }
 
 pub no_length : {A : Type 0} (l : List A) → (length l == 0) ≡ true → l ≡ []
 no_length [] e = refl
@@ -53,17 +72,11 @@ end_takes bytes x e = by (length bytes == 0) refl e
     by true t h = no_length bytes t
     by false t h = absurd cc
 
--- a text that may stand as a field
-pub record IsField (w : List ℕ) : Type 0 where
-  pub visible : IsVisible w
-  pub some : 0 < length w
-  pub text : is_utf8 w ≡ true
+pub text_again : (w rest : List ℕ) → is_field w ≡ true → word_len rest ≡ 0 → text_field (32 ∷ (w ++ rest)) ≡ Ok (w, rest)
+text_again w rest h e = ap found (field_again w rest h e)
 
-pub text_again : (w rest : List ℕ) → IsField w → word_len rest ≡ 0 → text_field (32 ∷ (w ++ rest)) ≡ Ok (w, rest)
-text_again w rest h e = ap found (field_again w rest h.visible h.some h.text e)
-
-pub number_again : (z : ℤ) (rest : List ℕ) → FitsSigned w64 z → word_len rest ≡ 0 → number_field (32 ∷ (signed_decimal z ++ rest)) ≡ Ok (z, rest)
-number_again z rest fits e = ap found (number_field_again z rest fits e)
+pub number_again : (z : ℤ) (rest : List ℕ) → word_len rest ≡ 0 → number_field (32 ∷ (signed_numeral z ++ rest)) ≡ Ok (near z, rest)
+number_again z rest e = ap found (number_field_again z rest e)
 
 -- ---- what the limits say
 
@@ -78,37 +91,50 @@ not_empty : (w : List ℕ) → not (length w == 0) ≡ true → 0 < length w
 not_empty [] e = absurd cc
 not_empty (b ∷ w) e = omega arith
 
-pub id_field : (w : List ℕ) → is_id w ≡ true → IsField w
+pub id_visible : (w : List ℕ) → is_id w ≡ true → IsVisible w
+id_visible w e =
+    let text = and_parts (has_id_form w) (is_utf8 w) e in
+    id_bytes w (and_parts (not (length w == 0) && nat_le (length w) 200) (list_all is_id_byte w) text.0).1
+
+pub id_field : (w : List ℕ) → is_id w ≡ true → is_field w ≡ true
 id_field w e =
     let text = and_parts (has_id_form w) (is_utf8 w) e in
     let p = and_parts (not (length w == 0) && nat_le (length w) 200) (list_all is_id_byte w) text.0 in
     let q = and_parts (not (length w == 0)) (nat_le (length w) 200) p.0 in
-    record { visible = id_bytes w p.1; some = not_empty w q.0; text = text.1 }
+    visible_field w (id_bytes w p.1) (not_empty w q.0) text.1
 
 -- a number far within 64 bits
-pub record IsShort (z : ℤ) : Type 0 where
-  pub fits : FitsSigned w64 z
-  pub within : IsWithin z
+abbrev pub IsShort : ℤ → Type 0
+IsShort z = mag z < 2 ^ 63 - 1
 
 pub pressure_short : (z : ℤ) → is_pressure z ≡ true → IsShort z
-pressure_short (pos n) e = record { fits = grind (arith, ints, nat_tests); within = grind (arith, ints, nat_tests) }
+pressure_short (pos n) e = grind (arith, ints, nat_tests)
 pressure_short (negsuc n) e = absurd cc
 
 pub difference_short : (z : ℤ) → is_difference z ≡ true → IsShort z
-difference_short (pos n) e = record { fits = grind (arith, ints, nat_tests); within = grind (arith, ints, nat_tests) }
+difference_short (pos n) e = grind (arith, ints, nat_tests)
 difference_short (negsuc n) e = absurd cc
 
 pub flow_short : (z : ℤ) → is_flow z ≡ true → IsShort z
-flow_short (pos n) e = record { fits = grind (arith, ints, nat_tests); within = grind (arith, ints, nat_tests) }
-flow_short (negsuc n) e = record { fits = grind (arith, ints, nat_tests); within = grind (arith, ints, nat_tests) }
+flow_short (pos n) e = grind (arith, ints, nat_tests)
+flow_short (negsuc n) e = grind (arith, ints, nat_tests)
 
 pub drag_part_short : (z : ℤ) → is_drag_part z ≡ true → IsShort z
-drag_part_short (pos n) e = record { fits = grind (arith, ints, nat_tests); within = grind (arith, ints, nat_tests) }
+drag_part_short (pos n) e = grind (arith, ints, nat_tests)
 drag_part_short (negsuc n) e = absurd cc
 
 pub ratio_part_short : (z : ℤ) → is_ratio_part z ≡ true → IsShort z
-ratio_part_short (pos n) e = record { fits = grind (arith, ints, nat_tests); within = grind (arith, ints, nat_tests) }
+ratio_part_short (pos n) e = grind (arith, ints, nat_tests)
 ratio_part_short (negsuc n) e = absurd cc
+
+-- a short number is the nearest one, and so is one whose nearest is short
+pub near_of_short : (z : ℤ) → IsShort z → near z ≡ z
+near_of_short (pos n) short = ap (λ n. pos n) (omega (arith, short))
+near_of_short (negsuc n) short = ap (λ n. negsuc n) (omega (arith, short))
+
+short_of_near : (z : ℤ) → IsShort (near z) → IsShort z
+short_of_near (pos n) short = omega (arith, short)
+short_of_near (negsuc n) short = omega (arith, short)
 
 -- ---- numbers one after the other
 
@@ -116,23 +142,35 @@ abbrev pub AreShort : List ℤ → Type 0
 AreShort [] = Unit {0}
 AreShort (z ∷ zs) = IsShort z × AreShort zs
 
+abbrev pub AreNear : List ℤ → Type 0
+AreNear [] = Unit {0}
+AreNear (z ∷ zs) = (near z ≡ z) × AreNear zs
+
+pub short_near : (zs : List ℤ) → AreShort zs → AreNear zs
+short_near [] short = tt
+short_near (z ∷ zs) short = (near_of_short z short.0, short_near zs short.1)
+
+pub nearest_short : (zs : List ℤ) → AreShort (map near zs) → AreNear zs
+nearest_short [] short = tt
+nearest_short (z ∷ zs) short = (near_of_short z (short_of_near z short.0), nearest_short zs short.1)
+
 -- numbers, each after one space, and what comes after them
 abbrev pub numbers_before : List ℤ → List ℕ → List ℕ
 numbers_before [] rest = rest
-numbers_before (z ∷ zs) rest = 32 ∷ (signed_decimal z ++ numbers_before zs rest)
+numbers_before (z ∷ zs) rest = 32 ∷ (signed_numeral z ++ numbers_before zs rest)
 
 -- cut after each number, the bytes are these numbers and what comes after them
 abbrev pub Cuts : List ℕ → List ℤ → List ℕ → Type 0
 Cuts bytes [] rest = bytes ≡ rest
-Cuts bytes (z ∷ zs) rest = (after : List ℕ) × (bytes ≡ 32 ∷ (signed_decimal z ++ after)) × Cuts after zs rest
+Cuts bytes (z ∷ zs) rest = (after : List ℕ) × (bytes ≡ 32 ∷ (signed_numeral z ++ after)) × Cuts after zs rest
 
 pub uncut : (bytes : List ℕ) (zs : List ℤ) (rest : List ℕ) → Cuts bytes zs rest → bytes ≡ numbers_before zs rest
 uncut bytes [] rest cuts = cuts
-uncut bytes (z ∷ zs) rest cuts = cuts.1 ∙ ap (λ (b : List ℕ). 32 ∷ (signed_decimal z ++ b)) (uncut cuts.0 zs rest cuts.2)
+uncut bytes (z ∷ zs) rest cuts = cuts.1 ∙ ap (λ (b : List ℕ). 32 ∷ (signed_numeral z ++ b)) (uncut cuts.0 zs rest cuts.2)
 
-pub spaced_numbers : (zs : List ℤ) → spaced (map signed_decimal zs) ≡ numbers_before zs []
+pub spaced_numbers : (zs : List ℤ) → spaced (map signed_numeral zs) ≡ numbers_before zs []
 spaced_numbers [] = refl
-spaced_numbers (z ∷ zs) = ap (λ (b : List ℕ). 32 ∷ (signed_decimal z ++ b)) (spaced_numbers zs)
+spaced_numbers (z ∷ zs) = ap (λ (b : List ℕ). 32 ∷ (signed_numeral z ++ b)) (spaced_numbers zs)
 
 -- no word comes before numbers
 pub no_word : (zs : List ℤ) → word_len (numbers_before zs []) ≡ 0
@@ -145,60 +183,92 @@ no_word (z ∷ zs) = refl
 abbrev pub head_text_before : HeadText → List ℕ → List ℕ
 head_text_before h rest = 32 ∷ (h.id ++ (32 ∷ (h.from ++ (32 ∷ (h.to ++ numbers_before (h.q_min ∷ h.q_max ∷ []) rest)))))
 
-pub record IsHead (h : HeadText) : Type 0 where
-  pub id : IsField h.id
-  pub from : IsField h.from
-  pub to : IsField h.to
-  pub q_min : IsShort h.q_min
-  pub q_max : IsShort h.q_max
+abbrev pub near_head : HeadText → HeadText
+near_head h = record { id = h.id; from = h.from; to = h.to; q_min = near h.q_min; q_max = near h.q_max }
 
-pub head_again : (h : HeadText) (rest : List ℕ) → IsHead h → word_len rest ≡ 0 → head_at (head_text_before h rest) ≡ Ok (h, rest)
+pub record IsHead (h : HeadText) : Type 0 where
+  pub id : is_field h.id ≡ true
+  pub from : is_field h.from ≡ true
+  pub to : is_field h.to ≡ true
+
+pub head_again : (h : HeadText) (rest : List ℕ) → IsHead h → word_len rest ≡ 0 → head_at (head_text_before h rest) ≡ Ok (near_head h, rest)
 unfolding head_at
 head_again h rest is e =
     let r4 : List ℕ = numbers_before (h.q_max ∷ []) rest in
     let r3 : List ℕ = numbers_before (h.q_min ∷ h.q_max ∷ []) rest in
     let r2 : List ℕ = 32 ∷ (h.to ++ r3) in
     let r1 : List ℕ = 32 ∷ (h.from ++ r2) in
-    rw (text_again h.id r1 is.id refl, text_again h.from r2 is.from refl, text_again h.to r3 is.to refl, number_again h.q_min r4 is.q_min.fits refl, number_again h.q_max rest is.q_max.fits e) refl
+    rw (text_again h.id r1 is.id refl, text_again h.from r2 is.from refl, text_again h.to r3 is.to refl, number_again h.q_min r4 refl, number_again h.q_max rest e) refl
 
 head_joined : (b r1 r2 r3 rest : List ℕ) (h : HeadText) → b ≡ 32 ∷ (h.id ++ r1) → r1 ≡ 32 ∷ (h.from ++ r2) → r2 ≡ 32 ∷ (h.to ++ r3) → r3 ≡ numbers_before (h.q_min ∷ h.q_max ∷ []) rest → b ≡ head_text_before h rest
 head_joined b r1 r2 r3 rest h e1 e2 e3 e4 = rw (e1, e2, e3, e4) refl
 
-pub head_takes : (bytes : List ℕ) (x : HeadText × List ℕ) → head_at bytes ≡ Ok x → AreShort (x.0.q_min ∷ x.0.q_max ∷ []) → bytes ≡ head_text_before x.0 x.1
+-- a head that was read with the nearest numbers
+pub record HeadRead (bytes : List ℕ) (x : HeadText × List ℕ) : Type 0 where
+  pub head : HeadText
+  pub is : IsHead head
+  pub text : bytes ≡ head_text_before head x.1
+  pub read : x.0 ≡ near_head head
+
+head_made : (id from to : List ℕ) (q r a b : ℤ) → q ≡ near a → r ≡ near b → (let h : HeadText = record { id = id; from = from; to = to; q_min = q; q_max = r } in h) ≡ near_head (record { id = id; from = from; to = to; q_min = a; q_max = b })
+head_made id from to q r a b e f = rw (e, f) refl
+
+pub head_takes : (bytes : List ℕ) (x : HeadText × List ℕ) → head_at bytes ≡ Ok x → HeadRead bytes x
 unfolding head_at
-head_takes bytes x e short =
+head_takes bytes x e =
     let id = bound_ok (text_field bytes) _ x e in
     let from = bound_ok (text_field id.0.1) _ x id.2 in
     let to = bound_ok (text_field from.0.1) _ x from.2 in
     let q_min = bound_ok (number_field to.0.1) _ x to.2 in
     let q_max = bound_ok (number_field q_min.0.1) _ x q_min.2 in
-    let h : HeadText = record { id = id.0.0; from = from.0.0; to = to.0.0; q_min = q_min.0.0; q_max = q_max.0.0 } in
-    let made : (h, q_max.0.1) ≡ x = let is = q_max.2 in cc in
-    let is_short = carry_back (λ (y : HeadText × List ℕ). AreShort (y.0.q_min ∷ y.0.q_max ∷ [])) (h, q_max.0.1) x made short in
-    let numbers = uncut to.0.1 (h.q_min ∷ h.q_max ∷ []) q_max.0.1 (q_min.0.1, number_takes to.0.1 q_min.0 q_min.1 is_short.0.within, (q_max.0.1, number_takes q_min.0.1 q_max.0 q_max.1 is_short.1.0.within, refl)) in
-    carry (λ (y : HeadText × List ℕ). bytes ≡ head_text_before y.0 y.1) (h, q_max.0.1) x made
-    (head_joined bytes id.0.1 from.0.1 to.0.1 q_max.0.1 h (text_takes bytes id.0 id.1) (text_takes id.0.1 from.0 from.1) (text_takes from.0.1 to.0 to.1) numbers)
+    let y : HeadText = record { id = id.0.0; from = from.0.0; to = to.0.0; q_min = q_min.0.0; q_max = q_max.0.0 } in
+    let made : (y, q_max.0.1) ≡ x = let is = q_max.2 in cc in
+    let i = text_takes bytes id.0 id.1 in
+    let f = text_takes id.0.1 from.0 from.1 in
+    let t = text_takes from.0.1 to.0 to.1 in
+    let a = number_takes to.0.1 q_min.0 q_min.1 in
+    let b = number_takes q_min.0.1 q_max.0 q_max.1 in
+    let h : HeadText = record { id = id.0.0; from = from.0.0; to = to.0.0; q_min = a.number; q_max = b.number } in
+    let numbers = uncut to.0.1 (h.q_min ∷ h.q_max ∷ []) q_max.0.1 (q_min.0.1, a.text, (q_max.0.1, b.text, refl)) in
+    carry (HeadRead bytes) (y, q_max.0.1) x made (record {
+      head = h;
+      is = record { id = i.form; from = f.form; to = t.form };
+      text = head_joined bytes id.0.1 from.0.1 to.0.1 q_max.0.1 h i.text f.text t.text numbers;
+      read = head_made id.0.0 from.0.0 to.0.0 q_min.0.0 q_max.0.0 a.number b.number a.read b.read;
+    })
 
 -- ---- a resistance
 
-pub drag_again : (d : Drag) (rest : List ℕ) → AreShort (d.lo ∷ d.hi ∷ d.den ∷ []) → word_len rest ≡ 0 → drag_at (numbers_before (d.lo ∷ d.hi ∷ d.den ∷ []) rest) ≡ Ok (d, rest)
-unfolding drag_at
-drag_again d rest short e =
-    rw (
-      number_again d.lo (numbers_before (d.hi ∷ d.den ∷ []) rest) short.0.fits refl,
-      number_again d.hi (numbers_before (d.den ∷ []) rest) short.1.0.fits refl,
-      number_again d.den rest short.1.1.0.fits e,
-    ) refl
+abbrev pub near_drag : Drag → Drag
+near_drag d = record { lo = near d.lo; hi = near d.hi; den = near d.den }
 
-pub drag_takes : (bytes : List ℕ) (x : Drag × List ℕ) → drag_at bytes ≡ Ok x → AreShort (x.0.lo ∷ x.0.hi ∷ x.0.den ∷ []) → bytes ≡ numbers_before (x.0.lo ∷ x.0.hi ∷ x.0.den ∷ []) x.1
+pub drag_again : (d : Drag) (rest : List ℕ) → word_len rest ≡ 0 → drag_at (numbers_before (d.lo ∷ d.hi ∷ d.den ∷ []) rest) ≡ Ok (near_drag d, rest)
 unfolding drag_at
-drag_takes bytes x e short =
+drag_again d rest e =
+    rw (number_again d.lo (numbers_before (d.hi ∷ d.den ∷ []) rest) refl, number_again d.hi (numbers_before (d.den ∷ []) rest) refl, number_again d.den rest e) refl
+
+pub record DragRead (bytes : List ℕ) (x : Drag × List ℕ) : Type 0 where
+  pub drag : Drag
+  pub text : bytes ≡ numbers_before (drag.lo ∷ drag.hi ∷ drag.den ∷ []) x.1
+  pub read : x.0 ≡ near_drag drag
+
+drag_made : (l h m a b c : ℤ) → l ≡ near a → h ≡ near b → m ≡ near c → (let d : Drag = record { lo = l; hi = h; den = m } in d) ≡ near_drag (record { lo = a; hi = b; den = c })
+drag_made l h m a b c e f g = rw (e, f, g) refl
+
+pub drag_takes : (bytes : List ℕ) (x : Drag × List ℕ) → drag_at bytes ≡ Ok x → DragRead bytes x
+unfolding drag_at
+drag_takes bytes x e =
     let lo = bound_ok (number_field bytes) _ x e in
     let hi = bound_ok (number_field lo.0.1) _ x lo.2 in
     let den = bound_ok (number_field hi.0.1) _ x hi.2 in
-    let d : Drag = record { lo = lo.0.0; hi = hi.0.0; den = den.0.0 } in
-    let made : (d, den.0.1) ≡ x = let is = den.2 in cc in
-    let is_short = carry_back (λ (y : Drag × List ℕ). AreShort (y.0.lo ∷ y.0.hi ∷ y.0.den ∷ [])) (d, den.0.1) x made short in
-    carry (λ (y : Drag × List ℕ). bytes ≡ numbers_before (y.0.lo ∷ y.0.hi ∷ y.0.den ∷ []) y.1) (d, den.0.1) x made
-    (uncut bytes (d.lo ∷ d.hi ∷ d.den ∷ []) den.0.1
-    (lo.0.1, number_takes bytes lo.0 lo.1 is_short.0.within, (hi.0.1, number_takes lo.0.1 hi.0 hi.1 is_short.1.0.within, (den.0.1, number_takes hi.0.1 den.0 den.1 is_short.1.1.0.within, refl))))
+    let y : Drag = record { lo = lo.0.0; hi = hi.0.0; den = den.0.0 } in
+    let made : (y, den.0.1) ≡ x = let is = den.2 in cc in
+    let a = number_takes bytes lo.0 lo.1 in
+    let b = number_takes lo.0.1 hi.0 hi.1 in
+    let c = number_takes hi.0.1 den.0 den.1 in
+    let d : Drag = record { lo = a.number; hi = b.number; den = c.number } in
+    carry (DragRead bytes) (y, den.0.1) x made (record {
+      drag = d;
+      text = uncut bytes (d.lo ∷ d.hi ∷ d.den ∷ []) den.0.1 (lo.0.1, a.text, (hi.0.1, b.text, (den.0.1, c.text, refl)));
+      read = drag_made lo.0.0 hi.0.0 den.0.0 a.number b.number c.number a.read b.read c.read;
+    })

@@ -24,9 +24,9 @@ use Rattle.flat_text.specs.declared.line.Part.TheVariants as part
 use Rattle.flat_text.specs.Line.{line_in, part_after}
 use Rattle.flat_text.specs.Items.{rows_in}
 use Rattle.flat_text.specs.Text.{◌>>=◌, numbered, placed, no_more, followed, items_at, head_line, after_head, rows_at, modelled, flat_of, Gives, IsRead}
-use Rattle.flat_text.specs.Spelling.{line, node_line, arc_line, decision_lines, group_lines, rows_text, flat_text}
+use Rattle.flat_text.specs.Spelling.{line, node_line, arc_line, decision_lines, group_lines, item_line, rows_text, flat_text}
 use Rattle.flat_text.proofs.Spaced.{no_length}
-use Rattle.flat_text.proofs.Spelled.{item_line, item_again, end_again, line_takes, item_feedless}
+use Rattle.flat_text.proofs.Spelled.{item_again, end_again, line_takes, item_takes, item_feedless}
 use Rattle.flat_text.proofs.Grouped.{node_items, arc_items, decision_items, group_items, items_of, AreStanding, items_kept, items_stand, rows_back}
 use Rattle.flat_text.proofs.Passing.{numbered_ok, item_of, end_of, turned, line_passed}
 use Rattle.flat_text.proofs.Remade.{AreWithin, whole_rows}
@@ -80,7 +80,7 @@ module _ (n : ℕ) (place : Part) (text after : List ℕ) where
       → ((next : Part) (ys : List Item) → others next ≡ Ok ys → AreSpelled next after ys) → AreSpelled place (text ++ 10 ∷ after) xs
   takes_item x xs e h read =
       let is = item_of place text x (numbered_ok n (line_in place text) (Some x) e) in
-      let spells = line_takes text (Some x) is.within is.read in
+      let spells = (item_takes text x is.read is.within).text in
       let ys = bound_ok (others (part_after x)) (λ items. Ok (x ∷ items)) xs h in
       let made : x ∷ ys.0 ≡ xs = let same = ys.2 in cc in
       let s = read (part_after x) ys.0 ys.1 in
@@ -94,7 +94,7 @@ module _ (n : ℕ) (place : Part) (text after : List ℕ) where
       by : (b : Bool) → (length after == 0) ≡ b → no_more n b ≡ Ok xs → AreSpelled place (text ++ 10 ∷ after) xs
       by true t h =
           let made : [] ≡ xs = cc in
-          let spells = line_takes text None tt (end_of place text (numbered_ok n (line_in place text) None e)) in
+          let spells = line_takes text None (end_of place text (numbered_ok n (line_in place text) None e)) in
           subst (AreSpelled place (text ++ 10 ∷ after)) made
           (record { text = ap (λ (l : List ℕ). text ++ 10 ∷ l) (no_length after t) ∙ ap (λ (l : List ℕ). l ++ 10 ∷ []) spells; stand = tt })
       by false t h = absurd cc

@@ -1,7 +1,7 @@
 -- What a writer of a problem needs: that groups decide arcs of the problem, and what was written piece by piece.
 use Rattle.std.proofs.Common.{◌≡◌, ◌<◌, ◌≤◌, ℕ, suc, zero, List, [], ◌∷◌, length, Bool, true, false, not, ◌&&◌, Option, Some, None, refl, sym, ap, ◌∙◌, inl, inr, ◌++◌, map, append_assoc, Result, Ok, Err}
 use Rattle.std.specs.Prelude.{◌==◌, nat_le, slice_get, OnOk}
-use Rattle.std.specs.Fmt.{signed_decimal}
+use Rattle.line_text.specs.Numerals.{signed_numeral}
 use Rattle.std.specs.List.{list_all}
 use Rattle.std.specs.Option.{option_map_or}
 use Rattle.std.proofs.lemmas.Bool.Decides.{leb_tells}
@@ -60,11 +60,11 @@ joined_append : (word : List ℕ) (xs ys : List (List ℕ)) → joined word xs +
 joined_append word xs ys = append_assoc word (spaced xs) (spaced ys) ∙ ap (λ (l : List ℕ). word ++ l) (sym (flat_map-append (λ field. 32 ∷ field) xs ys))
 
 -- an arc that was written piece by piece
-pub arc_written : {A E : Type 0} (r : Result A E) (old words kind new : List ℕ) (a : ArcText) → words ≡ old ++ joined (kind_word a.kind) (a.id ∷ a.from ∷ a.to ∷ signed_decimal a.q_min ∷ signed_decimal a.q_max ∷ [])
-    → kind ≡ words ++ spaced (map signed_decimal (kind_numbers a.kind)) → OnOk r (new ≡ kind ++ 10 ∷ []) → OnOk r (new ≡ old ++ arc_line a)
+pub arc_written : {A E : Type 0} (r : Result A E) (old words kind new : List ℕ) (a : ArcText) → words ≡ old ++ joined (kind_word a.kind) (a.id ∷ a.from ∷ a.to ∷ signed_numeral a.q_min ∷ signed_numeral a.q_max ∷ [])
+    → kind ≡ words ++ spaced (map signed_numeral (kind_numbers a.kind)) → OnOk r (new ≡ kind ++ 10 ∷ []) → OnOk r (new ≡ old ++ arc_line a)
 arc_written (Ok x) old words kind new a e1 e2 e3 =
-    let fields : List (List ℕ) = a.id ∷ a.from ∷ a.to ∷ signed_decimal a.q_min ∷ signed_decimal a.q_max ∷ [] in
-    let numbers : List (List ℕ) = map signed_decimal (kind_numbers a.kind) in
+    let fields : List (List ℕ) = a.id ∷ a.from ∷ a.to ∷ signed_numeral a.q_min ∷ signed_numeral a.q_max ∷ [] in
+    let numbers : List (List ℕ) = map signed_numeral (kind_numbers a.kind) in
     let text : kind ≡ old ++ joined (kind_word a.kind) (arc_fields a) =
     e2 ∙ ap (λ (l : List ℕ). l ++ spaced numbers) e1 ∙ append_assoc old (joined (kind_word a.kind) fields) (spaced numbers) ∙ ap (λ (l : List ℕ). old ++ l) (joined_append (kind_word a.kind) fields numbers) in
     e3 ∙ ap (λ (l : List ℕ). l ++ 10 ∷ []) text ∙ append_assoc old (joined (kind_word a.kind) (arc_fields a)) (10 ∷ [])

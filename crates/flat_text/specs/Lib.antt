@@ -6,3 +6,4 @@ pub mod Draft
 pub mod Text
 pub mod Spelling
 pub mod Writing
+pub mod Laws

@@ -1,7 +1,7 @@
 -- The one text of a problem.
-use Rattle.std.specs.Prelude.{ℕ, List, [], ◌∷◌, ◌++◌, map, ℤ, codes}
-use Rattle.std.specs.Fmt.{signed_decimal}
-use Rattle.std.specs.List.{flat_map}
+use Rattle.std.specs.Prelude.{◌≡◌, ℕ, true, List, [], ◌∷◌, ◌++◌, map, ℤ, codes}
+use Rattle.line_text.specs.Numerals.{signed_numeral}
+use Rattle.std.specs.List.{flat_map, list_all}
 use Rattle.gas_model.specs.declared.rows.NodeRow.{NodeRow}
 use Rattle.gas_model.specs.declared.rows.ArcKind.{ArcKind}
 use Rattle.gas_model.specs.declared.rows.ArcKind.TheVariants.{Pipe, Short, Resist, Loss, Valve, Control, Station}
@@ -13,7 +13,9 @@ use Rattle.gas_model.specs.declared.rows.DecisionText.{DecisionText}
 use Rattle.gas_model.specs.declared.rows.GroupText.{GroupText}
 use Rattle.gas_model.specs.declared.rows.Rows.{Rows}
 use Rattle.gas_model.specs.Rows.{Network, rows_of}
-use Rattle.line_text.specs.Words.{joined}
+use Rattle.line_text.specs.Words.{joined, is_field}
+use Rattle.flat_text.specs.declared.line.Item.{Item}
+use Rattle.flat_text.specs.declared.line.Item.TheVariants.{Node, Arc, Group, Decision, Set}
 
 -- fields, each after one space
 abbrev pub spaced : List (List ℕ) → List ℕ
@@ -24,7 +26,7 @@ abbrev pub line : List ℕ → List (List ℕ) → List ℕ
 line word fields = joined word fields ++ 10 ∷ []
 
 abbrev pub node_fields : NodeRow → List (List ℕ)
-node_fields n = n.id ∷ signed_decimal n.p_min ∷ signed_decimal n.p_max ∷ signed_decimal n.b_min ∷ signed_decimal n.b_max ∷ []
+node_fields n = n.id ∷ signed_numeral n.p_min ∷ signed_numeral n.p_max ∷ signed_numeral n.b_min ∷ signed_numeral n.b_max ∷ []
 
 abbrev pub node_line : NodeRow → List ℕ
 node_line n = line (codes "node") (node_fields n)
@@ -49,7 +51,7 @@ kind_numbers (Control in_min out_max red_min red_max) = in_min ∷ out_max ∷ r
 kind_numbers (Station in_min out_max ratio_num ratio_den rise_max) = in_min ∷ out_max ∷ ratio_num ∷ ratio_den ∷ rise_max ∷ []
 
 abbrev pub arc_fields : ArcText → List (List ℕ)
-arc_fields a = a.id ∷ a.from ∷ a.to ∷ map signed_decimal (a.q_min ∷ a.q_max ∷ kind_numbers a.kind)
+arc_fields a = a.id ∷ a.from ∷ a.to ∷ map signed_numeral (a.q_min ∷ a.q_max ∷ kind_numbers a.kind)
 
 abbrev pub arc_line : ArcText → List ℕ
 arc_line a = line (kind_word a.kind) (arc_fields a)
@@ -69,6 +71,41 @@ decision_lines d = line (codes "decision") (d.id ∷ []) ++ flat_map set_line d.
 
 abbrev pub group_lines : GroupText → List ℕ
 group_lines g = line (codes "group") (g.id ∷ []) ++ flat_map decision_lines g.decisions
+
+-- ---- one line that says an item
+
+abbrev pub item_word : Item → List ℕ
+item_word (Node n) = codes "node"
+item_word (Arc a) = kind_word a.kind
+item_word (Group id) = codes "group"
+item_word (Decision id) = codes "decision"
+item_word (Set s) = codes "set"
+
+abbrev pub item_fields : Item → List (List ℕ)
+item_fields (Node n) = node_fields n
+item_fields (Arc a) = arc_fields a
+item_fields (Group id) = id ∷ []
+item_fields (Decision id) = id ∷ []
+item_fields (Set s) = s.arc ∷ allow_word s.allow ∷ []
+
+-- the line without its line feed
+abbrev pub item_line : Item → List ℕ
+item_line x = joined (item_word x) (item_fields x)
+
+-- the ids that stand in the line
+abbrev pub item_ids : Item → List (List ℕ)
+item_ids (Node n) = n.id ∷ []
+item_ids (Arc a) = a.id ∷ a.from ∷ a.to ∷ []
+item_ids (Group id) = id ∷ []
+item_ids (Decision id) = id ∷ []
+item_ids (Set s) = s.arc ∷ []
+
+-- the bytes are the line of this item, whose numbers may have any size, and whose ids may be any fields
+pub record SpellsItem (bytes : List ℕ) (x : Item) : Type 0 where
+  pub ids : list_all is_field (item_ids x) ≡ true
+  pub text : bytes ≡ item_line x
+
+-- ---- the text of rows
 
 -- the lines of rows after the head line: the nodes, the arcs, the groups, and `end`
 abbrev pub rows_text : Rows → List ℕ

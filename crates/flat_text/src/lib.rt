@@ -5,11 +5,13 @@ mod draft;
 mod fault;
 mod fields;
 mod kinds;
+mod laws;
 mod line;
 mod text;
 mod writing;
 
 pub use fault::FlatFault;
+pub use laws::lines_have_their_form;
 pub use text::read_flat;
 pub use writing::write_flat;
 

@@ -54,6 +54,17 @@ const WITH_EACH_KIND: &str = "gasflat 1\n\
     set c active\n\
     end\n";
 
+// Ids with a quote, a backslash and letters past ASCII.
+const WITH_ODD_IDS: &str = "gasflat 1\n\
+    node a\"b 0 9 0 0\n\
+    node c\\d 0 9 0 0\n\
+    short \u{e9}\u{4e2d} a\"b c\\d 0 0\n\
+    valve \u{1f525} c\\d a\"b 0 0\n\
+    group \"\n\
+    decision \\\n\
+    set \u{1f525} open\n\
+    end\n";
+
 fn written_again(alloc: Global, text: &str) -> Result<Bytes, FlatFault> {
     let problem = read_flat(alloc, text.as_bytes())?;
     let bytes = write_flat(alloc, &problem)?;
@@ -62,7 +73,7 @@ fn written_again(alloc: Global, text: &str) -> Result<Bytes, FlatFault> {
 
 #[test]
 fn what_is_read_is_written_again(rt: HostRuntime) -> Result<(), Fail> {
-    for text in [WITH_A_STATION, WITH_A_VALVE, WITH_EACH_KIND] {
+    for text in [WITH_A_STATION, WITH_A_VALVE, WITH_EACH_KIND, WITH_ODD_IDS] {
         let bytes = written_again(rt.alloc(), text).map_err(|_| "not read")?;
         assert_eq!(rt; bytes.as_slice(), text.as_bytes());
     }
@@ -128,6 +139,22 @@ fn the_first_faulty_line_is_named(rt: HostRuntime) {
         ("gasflat 1\nnode  0 9 0 0\nend\n", true, 2),
         ("gasflat 1\nnode a 0 09 0 0\nend\n", true, 2),
         ("gasflat 1\nnode a 0 100000001 0 0\nend\n", false, 2),
+        // Numbers past 64 bits are of the form, as is a number below 0 where none may stand.
+        (
+            "gasflat 1\nnode a 0 9 0 99999999999999999999999999\nend\n",
+            false,
+            2,
+        ),
+        (
+            "gasflat 1\nnode a -99999999999999999999999999 9 0 0\nend\n",
+            false,
+            2,
+        ),
+        (
+            "gasflat 1\nnode a 0 9 0 0 99999999999999999999999999\nend\n",
+            true,
+            2,
+        ),
         ("gasflat 1\nnode a 0 9 0 0\nnode a 0 9 0 0 \n", true, 3),
         ("gasflat 1\nnode a 0 9 0 0\n", true, 3),
         ("gasflat 1\nnode a 0 9 0 0\nend", true, 3),

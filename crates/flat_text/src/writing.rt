@@ -1,6 +1,6 @@
 // The one text of a problem, written at the end of some bytes.
 ghost use Rattle.std.specs.Prelude.{◌≡◌, ◌<◌, [], ◌∷◌, ◌++◌, length, map, slice_index_or, codes, Ok, IfOk, OnOk};
-ghost use Rattle.std.specs.Fmt.{signed_decimal};
+ghost use Rattle.line_text.specs.Numerals.{signed_numeral};
 ghost use Rattle.std.specs.List.{flat_map};
 ghost use Rattle.gas_model.specs.Rows.{node_ids, arc_id, text_of, set_text, decision_text, group_text};
 ghost use Rattle.gas_model.specs.Rulings.{NameArcs, DecideArcs, GroupsDecideArcs};
@@ -24,7 +24,7 @@ fn put_field(out: &mut Bytes, text: &str) -> Result<(), NoMemory>
 
 /// One space, and the number.
 fn put_value(out: &mut Bytes, number: i64) -> Result<(), NoMemory>
-    ensures { OnOk result (out.new ≡ out.old ++ 32 ∷ signed_decimal number) }
+    ensures { OnOk result (out.new ≡ out.old ++ 32 ∷ signed_numeral number) }
 {
     out.push(b' ')?;
     put_number(out, number)
@@ -42,7 +42,7 @@ fn put_fields(out: &mut Bytes, fields: &[&str]) -> Result<(), NoMemory>
 
 /// Numbers, each after one space.
 fn put_values(out: &mut Bytes, numbers: &[i64]) -> Result<(), NoMemory>
-    ensures { OnOk result (out.new ≡ out.old ++ spaced (map signed_decimal numbers.now)) }
+    ensures { OnOk result (out.new ≡ out.old ++ spaced (map signed_numeral numbers.now)) }
 {
     for number in numbers {
         put_value(out, *number)?;
@@ -52,7 +52,7 @@ fn put_values(out: &mut Bytes, numbers: &[i64]) -> Result<(), NoMemory>
 
 /// The word of a line, then texts and numbers, each after one space.
 fn put_words(out: &mut Bytes, word: &str, texts: &[&str], numbers: &[i64]) -> Result<(), NoMemory>
-    ensures { OnOk result (out.new ≡ out.old ++ joined word.now (map (λ text. text.now) texts.now ++ map signed_decimal numbers.now)) }
+    ensures { OnOk result (out.new ≡ out.old ++ joined word.now (map (λ text. text.now) texts.now ++ map signed_numeral numbers.now)) }
 {
     out.append(word.as_bytes())?;
     put_fields(out, texts)?;
@@ -61,7 +61,7 @@ fn put_words(out: &mut Bytes, word: &str, texts: &[&str], numbers: &[i64]) -> Re
 
 /// The same as a whole line.
 fn put_line(out: &mut Bytes, word: &str, texts: &[&str], numbers: &[i64]) -> Result<(), NoMemory>
-    ensures { OnOk result (out.new ≡ out.old ++ line word.now (map (λ text. text.now) texts.now ++ map signed_decimal numbers.now)) }
+    ensures { OnOk result (out.new ≡ out.old ++ line word.now (map (λ text. text.now) texts.now ++ map signed_numeral numbers.now)) }
 {
     put_words(out, word, texts, numbers)?;
     out.push(b'\n')
@@ -88,7 +88,7 @@ fn node_name(nodes: &[NodeRow], node: u32) -> &str
 
 /// The numbers of a kind.
 fn put_kind(out: &mut Bytes, kind: &ArcKind) -> Result<(), NoMemory>
-    ensures { OnOk result (out.new ≡ out.old ++ spaced (map signed_decimal (kind_numbers kind.now))) }
+    ensures { OnOk result (out.new ≡ out.old ++ spaced (map signed_numeral (kind_numbers kind.now))) }
 {
     match *kind {
         ArcKind::Pipe { law } | ArcKind::Resist { law } => {

@@ -1,5 +1,5 @@
 -- What a field's text reads as, and which text reads as a field.
-use Rattle.std.proofs.Common.{◌≡◌, ◌<◌, ◌≤◌, ℕ, suc, List, [], ◌∷◌, ◌++◌, length, take, drop, take-append-drop, Bool, true, false, cond, not, ◌&&◌, Option, Some, None, ℤ, pos, negsuc, refl, sym, ap, ◌∙◌, arith, inl, inr}
+use Rattle.std.proofs.Common.{◌≡◌, ◌<◌, ◌≤◌, ◌+◌, ℕ, suc, List, [], ◌∷◌, ◌++◌, length, take, drop, take-append-drop, Bool, true, false, cond, not, ◌&&◌, Option, Some, None, ℤ, pos, negsuc, refl, sym, ap, ◌∙◌, arith, inl, inr}
 use Rattle.std.specs.Prelude.{◌==◌, nat_le}
 use Rattle.std.specs.List.{list_all}
 use Rattle.std.specs.Char.{is_ascii_digit}
@@ -13,7 +13,7 @@ use Rattle.std.proofs.lemmas.Str.{IsUtf8-from_ascii, is_utf8-from_IsUtf8}
 use Rattle.std.proofs.lemmas.Str.Ascii.{IsAscii-cons}
 use Rattle.line_text.specs.Lines.{HasNoFeed}
 use Rattle.line_text.specs.Numerals.{numeral, signed_numeral, integer, number_at}
-use Rattle.line_text.specs.Words.{◌>>=◌, word_len, field_at, number_field}
+use Rattle.line_text.specs.Words.{◌>>=◌, word_len, is_field, field_at, number_field}
 use Rattle.line_text.proofs.Decimals.{own, numeral_form}
 use Rattle.line_text.proofs.Numbers.{integer_again, integer_takes, bound, mapped}
 
@@ -38,22 +38,43 @@ visible_no_feed (b ∷ w) e =
     let p = and_parts (nat_le 33 b) (list_all (λ b. nat_le 33 b) w) e in
     rw (other b 10 (omega arith) p.0) (visible_no_feed w p.1)
 
+-- no byte is a space
+abbrev pub HasNoSpace : List ℕ → Type 0
+HasNoSpace w = list_all (λ b. not (b == 32)) w ≡ true
+
+pub visible_no_space : (w : List ℕ) → IsVisible w → HasNoSpace w
+visible_no_space [] e = refl
+visible_no_space (b ∷ w) e =
+    let p = and_parts (nat_le 33 b) (list_all (λ b. nat_le 33 b) w) e in
+    rw (other b 32 (omega arith) p.0) (visible_no_space w p.1)
+
+not_false : (b : Bool) → not b ≡ true → b ≡ false
+not_false true e = absurd cc
+not_false false e = refl
+
 -- a word goes up to the next space
-pub word_before : (w rest : List ℕ) → IsVisible w → word_len rest ≡ 0 → word_len (w ++ rest) ≡ length w
+word_before : (w rest : List ℕ) → HasNoSpace w → word_len rest ≡ 0 → word_len (w ++ rest) ≡ length w
 word_before [] rest e h = h
 word_before (b ∷ w) rest e h =
-    let p = and_parts (nat_le 33 b) (list_all (λ b. nat_le 33 b) w) e in
-    rw (other b 32 (omega arith) p.0) (omega (arith, word_before w rest p.1 h))
+    let p = and_parts (not (b == 32)) (list_all (λ b. not (b == 32)) w) e in
+    rw (not_false (b == 32) p.0) (omega (arith, word_before w rest p.1 h))
 
 pub word_cut : (w rest : List ℕ) → IsVisible w → word_len rest ≡ 0 → (take (word_len (w ++ rest)) (w ++ rest) ≡ w) × (drop (word_len (w ++ rest)) (w ++ rest) ≡ rest)
-word_cut w rest e h = let len = word_before w rest e h in (rw len (take_at w rest (length w) refl), rw len (drop_at w rest (length w) refl))
+word_cut w rest e h = let len = word_before w rest (visible_no_space w e) h in (rw len (take_at w rest (length w) refl), rw len (drop_at w rest (length w) refl))
 
-pub field_again : (w rest : List ℕ) → IsVisible w → 0 < length w → is_utf8 w ≡ true → word_len rest ≡ 0 → field_at (32 ∷ (w ++ rest)) ≡ Some (w, rest)
-unfolding field_at
-field_again w rest visible some text h =
-    let len = word_before w rest visible h in
+pub visible_field : (w : List ℕ) → IsVisible w → 0 < length w → is_utf8 w ≡ true → is_field w ≡ true
+visible_field w visible some text =
     let full : (length w == 0) ≡ false = ne_eqb (length w) 0 (λ e. omega (arith, e, some)) in
-    rw (len, full, take_at w rest (length w) refl, drop_at w rest (length w) refl, text) refl
+    rw (full, visible_no_space w visible, text) refl
+
+pub field_again : (w rest : List ℕ) → is_field w ≡ true → word_len rest ≡ 0 → field_at (32 ∷ (w ++ rest)) ≡ Some (w, rest)
+unfolding field_at
+field_again w rest e h =
+    let p = and_parts (not (length w == 0) && list_all (λ b. not (b == 32)) w) (is_utf8 w) e in
+    let q = and_parts (not (length w == 0)) (list_all (λ b. not (b == 32)) w) p.0 in
+    let len = word_before w rest q.1 h in
+    let text = p.1 in
+    rw (len, not_false (length w == 0) q.0, take_at w rest (length w) refl, drop_at w rest (length w) refl, text) refl
 
 passed : {A : Type 0} (b : Bool) (o : Option A) (y : A) → cond b None o ≡ Some y → (b ≡ false) × (o ≡ Some y)
 passed true o y e = absurd cc
@@ -75,6 +96,39 @@ field_takes (c ∷ bs) w rest e =
     is_space : (b : Bool) → (c == 32) ≡ b → not b ≡ false → c ≡ 32
     is_space true t h = eqb-true c 32 t
     is_space false t h = absurd cc
+
+-- the bytes before the first space have none
+front_no_space : (bs : List ℕ) → HasNoSpace (take (word_len bs) bs)
+front_no_space [] = refl
+front_no_space (b ∷ bs) = by (b == 32) refl (front_no_space bs)
+  where
+    by : (t : Bool) → (b == 32) ≡ t → HasNoSpace (take (word_len bs) bs) → HasNoSpace (take (cond (not t) (1 + word_len bs) 0) (b ∷ bs))
+    by true e h = refl
+    by false e h = let next : 1 + word_len bs ≡ suc (word_len bs) = omega arith in rw (next, e) h
+
+front_some : (bs : List ℕ) → (word_len bs == 0) ≡ false → (length (take (word_len bs) bs) == 0) ≡ false
+front_some [] e = e
+front_some (b ∷ bs) e = by (b == 32) refl e
+  where
+    by : (t : Bool) → (b == 32) ≡ t → (cond (not t) (1 + word_len bs) 0 == 0) ≡ false → (length (take (cond (not t) (1 + word_len bs) 0) (b ∷ bs)) == 0) ≡ false
+    by true h k = k
+    by false h k = let next : 1 + word_len bs ≡ suc (word_len bs) = omega arith in rw next (ne_eqb (length (b ∷ take (word_len bs) bs)) 0 (λ e. omega (arith, e)))
+
+pub field_form : (bytes w rest : List ℕ) → field_at bytes ≡ Some (w, rest) → is_field w ≡ true
+unfolding field_at
+field_form [] w rest e = absurd cc
+field_form (c ∷ bs) w rest e =
+    let n = word_len bs in
+    let p = passed (not (c == 32)) _ (w, rest) e in
+    let q = passed (n == 0) _ (w, rest) p.1 in
+    let r = passed (not (is_utf8 (take n bs))) (Some (take n bs, drop n bs)) (w, rest) q.1 in
+    let same : (take n bs, drop n bs) ≡ (w, rest) = let h = r.1 in cc in
+    let form : is_field (take n bs) ≡ true = rw (front_some bs q.0, front_no_space bs) (is_not (is_utf8 (take n bs)) r.0) in
+    ap (λ (x : List ℕ × List ℕ). is_field x.0) (sym same) ∙ form
+  where
+    is_not : (b : Bool) → not b ≡ false → b ≡ true
+    is_not true e = refl
+    is_not false e = absurd cc
 
 -- ---- numbers
 
@@ -106,7 +160,7 @@ signed_some (pos n) = (numeral_form n).1
 signed_some (negsuc n) = omega arith
 
 pub signed_field_again : (z : ℤ) (rest : List ℕ) → word_len rest ≡ 0 → field_at (32 ∷ (signed_numeral z ++ rest)) ≡ Some (signed_numeral z, rest)
-signed_field_again z rest h = field_again (signed_numeral z) rest (signed_visible z) (signed_some z) (is_utf8-from_IsUtf8 _ (IsUtf8-from_ascii _ (signed_ascii z))) h
+signed_field_again z rest h = field_again (signed_numeral z) rest (visible_field (signed_numeral z) (signed_visible z) (signed_some z) (is_utf8-from_IsUtf8 _ (IsUtf8-from_ascii _ (signed_ascii z)))) h
 
 pub number_field_again : (z : ℤ) (rest : List ℕ) → word_len rest ≡ 0 → number_field (32 ∷ (signed_numeral z ++ rest)) ≡ Some (saturate_signed w64 z, rest)
 unfolding number_field

@@ -1,6 +1,6 @@
 -- The words of a line, parted by one space.
-use Rattle.std.specs.Prelude.{ℕ, ◌==◌, not, List, [], ◌∷◌, ◌++◌, take, drop, if◌then◌else◌, Option, Some, None, option_and_then, ℤ}
-use Rattle.std.specs.List.{position_or_len, flat_map}
+use Rattle.std.specs.Prelude.{ℕ, ◌==◌, ◌&&◌, not, Bool, List, [], ◌∷◌, ◌++◌, length, take, drop, if◌then◌else◌, Option, Some, None, option_and_then, ℤ}
+use Rattle.std.specs.List.{position_or_len, flat_map, list_all}
 use Rattle.std.specs.Str.{is_utf8}
 use Rattle.line_text.specs.Numerals.{number_at}
 
@@ -15,6 +15,10 @@ word_len bytes = position_or_len (λ b. b == 32) bytes
 -- a word and its fields, each after one space
 abbrev pub joined : List ℕ → List (List ℕ) → List ℕ
 joined word fields = word ++ flat_map (λ field. 32 ∷ field) fields
+
+-- a text that can be a field: it isn't empty, has no space, and is UTF-8
+abbrev pub is_field : List ℕ → Bool
+is_field w = not (length w == 0) && list_all (λ b. not (b == 32)) w && is_utf8 w
 
 -- a space, and the text after it, which isn't empty, up to the next space; and what comes after it
 unfoldable pub field_at : List ℕ → Option (List ℕ × List ℕ)

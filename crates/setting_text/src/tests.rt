@@ -254,3 +254,68 @@ fn other_texts_are_no_setting(rt: HostRuntime) -> Result<(), Fail> {
     expect_wholes(&rt, rt.alloc(), &problem);
     Ok(())
 }
+
+// Ids with a quote, a backslash and letters past ASCII.
+fn oddly_named_rows(alloc: Global) -> Result<Rows, NoMemory> {
+    let mut nodes = List::new(alloc);
+    nodes.push(node(alloc, "a\"b")?)?;
+    nodes.push(node(alloc, "c\\d")?)?;
+    let mut arcs = List::new(alloc);
+    arcs.push(ArcText {
+        id: Name::of(alloc, "\u{e9}\u{4e2d}")?,
+        from: Name::of(alloc, "a\"b")?,
+        to: Name::of(alloc, "c\\d")?,
+        q_min: -9,
+        q_max: 9,
+        kind: ArcKind::Short,
+    })?;
+    let groups = List::new(alloc);
+    Ok(Rows {
+        nodes,
+        arcs,
+        groups,
+    })
+}
+
+#[test]
+fn quotes_and_backslashes_in_ids_are_escaped(rt: HostRuntime) -> Result<(), Fail> {
+    let alloc = rt.alloc();
+    let problem = Problem::make(alloc, oddly_named_rows(alloc)?)?;
+    let text =
+        "{\"arcs\":[[\"\\u00e9\\u4e2d\",\"open\",2]],\"decisions\":[],\"nodes\":[[\"a\\u0022b\",40],[\"c\\u005cd\",40]]}";
+    let line =
+        "{\"arcs\":[[\"\u{e9}\u{4e2d}\",\"open\",2]],\"decisions\":[],\"nodes\":[[\"a\\\"b\",40],[\"c\\\\d\",40]]}\n";
+    expect_again(&rt, alloc, &problem, text, line);
+    expect_again(&rt, alloc, &problem, line, line);
+    Ok(())
+}
+
+// Lists within one another, so many deep.
+fn nested(alloc: Global, depth: u32) -> Result<Bytes, NoMemory> {
+    let mut text = Bytes::new(alloc);
+    for _ in 0..depth {
+        text.push(b'[')?;
+    }
+    for _ in 0..depth {
+        text.push(b']')?;
+    }
+    Ok(text)
+}
+
+#[test]
+fn lists_are_read_up_to_127_deep(rt: HostRuntime) -> Result<(), Fail> {
+    let alloc = rt.alloc();
+    let problem = pipe_beside_valve(alloc)?;
+    for (depth, fault) in [
+        (127, SettingFault::NotSetting { key: Key::Whole }),
+        (128, SettingFault::NotJson),
+    ] {
+        let text = nested(alloc, depth)?;
+        assert_eq!(rt;
+            fault_of(alloc, &problem, text.as_slice()),
+            Some(fault),
+            "{depth}"
+        );
+    }
+    Ok(())
+}

@@ -16,7 +16,7 @@ use Rattle.line_text.specs.Words.{word_len, field_at}
 use Rattle.line_text.specs.Numerals.{numeral, signed_numeral, natural, integer}
 use Rattle.line_text.specs.Long.{fits_position, fits_long, fitting, position_at, long_at}
 use Rattle.line_text.proofs.Decimals.{numeral_form}
-use Rattle.line_text.proofs.Fields.{IsVisible, numeral_visible, numeral_ascii, field_again, field_takes}
+use Rattle.line_text.proofs.Fields.{IsVisible, numeral_visible, numeral_ascii, visible_field, field_again, field_takes}
 use Rattle.line_text.proofs.Numbers.{natural_again, natural_takes, integer_again, integer_takes, mapped}
 use Rattle.tree_cert.specs.declared.line.Rule.{Rule}
 use Rattle.tree_cert.specs.declared.line.Rule.TheVariants as rules
@@ -117,7 +117,7 @@ module _ {A : Type 0} (at : List ℕ → Option A) where
   field_by bytes = text_field bytes >>= λ word. found (at word.0) >>= with_rest word.1
 
   pub by_again : (w rest : List ℕ) (x : A) → IsWord w → at w ≡ Some x → word_len rest ≡ 0 → field_by (32 ∷ (w ++ rest)) ≡ Ok (x, rest)
-  by_again w rest x is e h = rw (field_again w rest is.visible is.some is.text h, e) refl
+  by_again w rest x is e h = rw (field_again w rest (visible_field w is.visible is.some is.text) h, e) refl
 
   pub by_takes : (bytes : List ℕ) (x : A) (rest : List ℕ) → field_by bytes ≡ Ok (x, rest) → (w : List ℕ) × (at w ≡ Some x) × (bytes ≡ 32 ∷ (w ++ rest))
   by_takes bytes x rest e =
@@ -271,7 +271,7 @@ end_field_takes bytes low rest e =
 
 -- a field of text
 pub text_field_again : (w rest : List ℕ) → IsWord w → word_len rest ≡ 0 → text_field (32 ∷ (w ++ rest)) ≡ Ok (w, rest)
-text_field_again w rest is h = ap found (field_again w rest is.visible is.some is.text h)
+text_field_again w rest is h = ap found (field_again w rest (visible_field w is.visible is.some is.text) h)
 
 pub text_field_takes : (bytes w rest : List ℕ) → text_field bytes ≡ Ok (w, rest) → bytes ≡ 32 ∷ (w ++ rest)
 text_field_takes bytes w rest e = field_takes bytes w rest (found_ok (field_at bytes) (w, rest) e)
