@@ -6,4 +6,10 @@ pub mod Decided
 pub mod GroupTurns
 pub mod RuledWords
 pub mod Ruled
-pub mod FixedStates
+pub mod InOrder
+pub mod PickedWord
+pub mod Exactly
+pub mod BoxFacts
+pub mod StateWords
+pub mod NodeSums
+pub mod LimitFacts

@@ -5,7 +5,7 @@ use Rattle.std.specs.List.{list_all}
 use Rattle.std.specs.Option.{option_map, option_map_or}
 use Rattle.std.specs.Str.{bytes_eq}
 use Rattle.std.proofs.lemmas.Option.{slice_get-map, slice_get_within}
-use Rattle.std.proofs.lemmas.Bool.{leb-true}
+use Rattle.std.proofs.lemmas.Bool.{leb-true, and_parts, and_from}
 use Rattle.std.proofs.lemmas.List.{length-map}
 use Rattle.std.proofs.lemmas.List.Quantifiers.{position-Some}
 use Rattle.std.proofs.lemmas.Slice.Eq.{bytes_eq-Decides}
@@ -39,18 +39,10 @@ passed_at {A} key check earlier (y ∷ xs) clean zero x e =
 passed_at key check earlier (y ∷ xs) clean (suc i) x e =
     passed_at key check (earlier ++ key y ∷ []) xs (both_none (check earlier y) _ clean).1 i x e
 
-both_true : (a b : Bool) → (a && b) ≡ true → (a ≡ true) × (b ≡ true)
-both_true true b h = (refl, h)
-both_true false b h = absurd cc
-
-both_hold : (a b : Bool) → a ≡ true → b ≡ true → (a && b) ≡ true
-both_hold true b e h = h
-both_hold false b e h = absurd cc
-
 all_at : {A : Type 0} (p : A → Bool) (xs : List A) → list_all p xs ≡ true → (i : ℕ) (x : A) → slice_get xs i ≡ Some x → p x ≡ true
 all_at p [] h i x e = absurd cc
-all_at p (y ∷ xs) h zero x e = let same : y ≡ x = cc in ap p (sym same) ∙ (both_true (p y) (list_all p xs) h).0
-all_at p (y ∷ xs) h (suc i) x e = all_at p xs (both_true (p y) (list_all p xs) h).1 i x e
+all_at p (y ∷ xs) h zero x e = let same : y ≡ x = cc in ap p (sym same) ∙ (and_parts (p y) (list_all p xs) h).0
+all_at p (y ∷ xs) h (suc i) x e = all_at p xs (and_parts (p y) (list_all p xs) h).1 i x e
 
 unmapped : {A B : Type 0} (f : A → B) (o : Option A) (y : B) → option_map f o ≡ Some y → (x : A) × (o ≡ Some x) × (f x ≡ y)
 unmapped f None y e = absurd cc
@@ -69,7 +61,7 @@ all_clean : {A K F : Type 0} (key : A → K) (check : List K → A → Option F)
 all_clean key check test earlier [] each clean = refl
 all_clean key check test earlier (x ∷ xs) each clean =
     let p = both_none (check earlier x) (first_offence key check (earlier ++ key x ∷ []) xs) clean in
-    both_hold (test x) (list_all test xs) (each earlier x p.0) (all_clean key check test (earlier ++ key x ∷ []) xs each p.1)
+    and_from (test x) (list_all test xs) (each earlier x p.0) (all_clean key check test (earlier ++ key x ∷ []) xs each p.1)
 
 -- a test of mapped items
 all_mapped : {A B : Type 0} (f : A → B) (p : B → Bool) (xs : List A) → list_all p (map f xs) ≡ list_all (λ x. p (f x)) xs
@@ -92,7 +84,7 @@ set_within nodes arcs s c = takes_placed nodes arcs s (place (text_ids arcs) s.a
 decision_within : (nodes : List (List ℕ)) (arcs : List ArcText) (group : List ℕ) (decided : List (List ℕ)) (d : DecisionText) → IsCleanDecision arcs group decided d
     → is_decision_within (map (arc_of nodes) arcs) (decision_of (text_ids arcs) d) ≡ true
 decision_within nodes arcs group decided d c =
-    both_hold (is_id d.id) _ c.id
+    and_from (is_id d.id) _ c.id
     (all_mapped (set_of (text_ids arcs)) (is_set_within (map (arc_of nodes) arcs)) d.sets
     ∙ all_clean set_key (set_fault arcs group decided) (λ s. is_set_within (map (arc_of nodes) arcs) (set_of (text_ids arcs) s)) [] d.sets
     (λ before s e. set_within nodes arcs s (clean_set arcs group decided before s e)) c.sets)
@@ -103,7 +95,7 @@ group_within nodes arcs decided g c few =
     let size : length (map (decision_of (text_ids arcs)) g.decisions) ≡ length g.decisions = length-map g.decisions (decision_of (text_ids arcs)) in
     let some : not (length (map (decision_of (text_ids arcs)) g.decisions) == 0) ≡ true = ap (λ n. not (n == 0)) size ∙ ap not c.some in
     let many : leb (length (map (decision_of (text_ids arcs)) g.decisions)) 1024 ≡ true = ap (λ n. leb n 1024) size ∙ few in
-    both_hold _ _ (both_hold _ _ (both_hold (is_id g.id) _ c.id some) many)
+    and_from _ _ (and_from _ _ (and_from (is_id g.id) _ c.id some) many)
     (all_mapped (decision_of (text_ids arcs)) (is_decision_within (map (arc_of nodes) arcs)) g.decisions
     ∙ all_clean decision_key (decision_fault arcs g.id decided) (λ d. is_decision_within (map (arc_of nodes) arcs) (decision_of (text_ids arcs) d)) [] g.decisions
     (λ before d e. decision_within nodes arcs g.id decided d (clean_decision arcs g.id decided before d e)) c.decisions)
@@ -195,10 +187,10 @@ below_rows f xs (Some x) i e h = slice_get_within xs i x e
 -- the arcs of which the groups of a problem speak
 pub groups_limited : (p : Network) → IsWithin p → GroupsDecideArcs (length p.arcs) p.groups
 groups_limited p w = record {
-  few = λ k g e. leb-true _ _ (both_true _ _ (both_true _ _ (w.groups k g e)).0).1;
+  few = λ k g e. leb-true _ _ (and_parts _ _ (and_parts _ _ (w.groups k g e)).0).1;
   arcs = λ k g e j d f i s h.
-      let decisions = (both_true _ _ (w.groups k g e)).1 in
-      let sets = (both_true (is_id d.id) (list_all (is_set_within p.arcs) d.sets) (all_at (is_decision_within p.arcs) g.decisions decisions j d f)).1 in
+      let decisions = (and_parts _ _ (w.groups k g e)).1 in
+      let sets = (and_parts (is_id d.id) (list_all (is_set_within p.arcs) d.sets) (all_at (is_decision_within p.arcs) g.decisions decisions j d f)).1 in
       below_rows (λ (row : ArcRow). takes row.kind s.1) p.arcs _ s.0 refl (all_at (is_set_within p.arcs) d.sets sets i s h);
 }
 

@@ -10,12 +10,8 @@ use Rattle.gas_model.specs.declared.rows.ArcState.{ArcState}
 use Rattle.gas_model.specs.declared.rows.Decision.{Decision}
 use Rattle.gas_model.specs.declared.rows.Group.{Group}
 use Rattle.gas_model.specs.declared.rows.Ruling.{Ruling}
-use Rattle.gas_model.specs.Choices.{allows, words_in, words_if, words_for}
+use Rattle.gas_model.specs.Choices.{allows, words_allow, picks_allow, words_in, words_if, words_for}
 use Rattle.gas_model.specs.Rulings.{rulings_in, rulings_by, rulings_from, rulings_at, leaves, all_leave, pick_in}
-
--- all words allow the state
-abbrev allow_all : ArcState → List Allow → Bool
-allow_all state words = list_all (λ word. allows word state) words
 
 -- the pick is the decision j
 abbrev picks_it : Option ℕ → ℕ → Bool
@@ -56,13 +52,13 @@ others_in pick state a k j (s ∷ sets) h =
     ∙ both_ways (not (s.0 == a) || leaves (pick k) state r) (all_leave pick state (rulings_in a k j sets)) true true (or_true (s.0 == a) (leaves (pick k) state r) (leaves_others (pick k) state r h)) (others_in pick state a k j sets h)
 
 picked_in : (pick : ℕ → Option ℕ) (state : ArcState) (a k j : ℕ) (sets : List (ℕ × Allow)) → picks_it (pick k) j ≡ true
-    → all_leave pick state (rulings_in a k j sets) ≡ allow_all state (map (λ s. s.1) (filter (λ s. s.0 == a) sets))
+    → all_leave pick state (rulings_in a k j sets) ≡ words_allow state (map (λ s. s.1) (filter (λ s. s.0 == a) sets))
 picked_in pick state a k j [] h = refl
 picked_in pick state a k j (s ∷ sets) h =
     let r : Ruling = record { group = k; decision = j; allow = s.1 } in
     let rest = filter (λ (x : ℕ × Allow). x.0 == a) sets in
     ruling_if (λ x. leaves (pick x.group) state x) (s.0 == a) r (rulings_in a k j sets)
-    ∙ both_ways (not (s.0 == a) || leaves (pick k) state r) (all_leave pick state (rulings_in a k j sets)) (not (s.0 == a) || allows s.1 state) (allow_all state (map (λ x. x.1) rest)) (ap (λ (b : Bool). not (s.0 == a) || b) (leaves_allowed (pick k) state r h)) (picked_in pick state a k j sets h)
+    ∙ both_ways (not (s.0 == a) || leaves (pick k) state r) (all_leave pick state (rulings_in a k j sets)) (not (s.0 == a) || allows s.1 state) (words_allow state (map (λ x. x.1) rest)) (ap (λ (b : Bool). not (s.0 == a) || b) (leaves_allowed (pick k) state r h)) (picked_in pick state a k j sets h)
     ∙ sym (word_if (λ word. allows word state) (s.0 == a) s rest)
 
 -- ---- one group
@@ -83,17 +79,17 @@ another_picked : (pick : Option ℕ) (i j : ℕ) → pick ≡ Some i → (i ≡ 
 another_picked pick i j e h = ap (λ o. picks_it o j) e ∙ grind (arith, nat_tests)
 
 picked_by : (pick : ℕ → Option ℕ) (state : ArcState) (a k n m : ℕ) (decisions : List Decision) → pick k ≡ Some (n + m)
-    → all_leave pick state (rulings_by a k n decisions) ≡ allow_all state (words_if (slice_get decisions m) a)
+    → all_leave pick state (rulings_by a k n decisions) ≡ words_allow state (words_if (slice_get decisions m) a)
 picked_by pick state a k n m [] h = refl
 picked_by pick state a k n zero (d ∷ decisions) h =
     all_append pick state (rulings_in a k n d.sets) (rulings_by a k (n + 1) decisions)
-    ∙ both_ways (all_leave pick state (rulings_in a k n d.sets)) (all_leave pick state (rulings_by a k (n + 1) decisions)) (allow_all state (words_in d a)) true
+    ∙ both_ways (all_leave pick state (rulings_in a k n d.sets)) (all_leave pick state (rulings_by a k (n + 1) decisions)) (words_allow state (words_in d a)) true
     (picked_in pick state a k n d.sets (it_picks (pick k) n (h ∙ ap Some (let e : n + 0 ≡ n = omega arith in e))))
     (others_by pick state a k (n + 1) decisions (λ j l. another_picked (pick k) (n + 0) j h (λ e. absurd (omega arith))))
-    ∙ and_true (allow_all state (words_in d a))
+    ∙ and_true (words_allow state (words_in d a))
 picked_by pick state a k n (suc m) (d ∷ decisions) h =
     all_append pick state (rulings_in a k n d.sets) (rulings_by a k (n + 1) decisions)
-    ∙ both_ways (all_leave pick state (rulings_in a k n d.sets)) (all_leave pick state (rulings_by a k (n + 1) decisions)) true (allow_all state (words_if (slice_get decisions m) a))
+    ∙ both_ways (all_leave pick state (rulings_in a k n d.sets)) (all_leave pick state (rulings_by a k (n + 1) decisions)) true (words_allow state (words_if (slice_get decisions m) a))
     (others_in pick state a k n d.sets (another_picked (pick k) (n + suc m) n h (λ e. absurd (omega arith))))
     (picked_by pick state a k (n + 1) m decisions (h ∙ ap Some (let e : n + suc m ≡ n + 1 + m = omega arith in e)))
 
@@ -112,7 +108,7 @@ others_from pick state a k (g ∷ groups) h =
     (others_from pick state a (k + 1) groups (λ i. ap pick (let e : k + 1 + i ≡ k + suc i = omega arith in e) ∙ h (suc i)))
 
 words_from : (pick : ℕ → Option ℕ) (state : ArcState) (a k : ℕ) (groups : List Group) (picks : List (Option ℕ)) → ((i : ℕ) → pick (k + i) ≡ slice_index_or picks i None)
-    → allow_all state (words_for groups picks a) ≡ all_leave pick state (rulings_from a k groups)
+    → words_allow state (words_for groups picks a) ≡ all_leave pick state (rulings_from a k groups)
 words_from pick state a k [] picks h = refl
 words_from pick state a k (g ∷ groups) [] h = sym (others_from pick state a k (g ∷ groups) h)
 words_from pick state a k (g ∷ groups) (None ∷ picks) h =
@@ -125,12 +121,12 @@ words_from pick state a k (g ∷ groups) (None ∷ picks) h =
 words_from pick state a k (g ∷ groups) (Some j ∷ picks) h =
     let here : pick k ≡ Some (0 + j) = ap pick (let e : k ≡ k + 0 = omega arith in e) ∙ h 0 ∙ ap Some (let e : j ≡ 0 + j = omega arith in e) in
     list_all-append (λ word. allows word state) (words_if (slice_get g.decisions j) a) (words_for groups picks a)
-    ∙ both_ways (allow_all state (words_if (slice_get g.decisions j) a)) (allow_all state (words_for groups picks a)) (all_leave pick state (rulings_by a k 0 g.decisions)) (all_leave pick state (rulings_from a (k + 1) groups))
+    ∙ both_ways (words_allow state (words_if (slice_get g.decisions j) a)) (words_allow state (words_for groups picks a)) (all_leave pick state (rulings_by a k 0 g.decisions)) (all_leave pick state (rulings_from a (k + 1) groups))
     (sym (picked_by pick state a k 0 j g.decisions here))
     (words_from pick state a (k + 1) groups picks (λ i. ap pick (let e : k + 1 + i ≡ k + suc i = omega arith in e) ∙ h (suc i)))
     ∙ sym (all_append pick state (rulings_by a k 0 g.decisions) (rulings_from a (k + 1) groups))
 
 -- the words of the picked decisions for an arc allow a state exactly where the arc's rulings leave it
-pub words_leave : (groups : List Group) (picks : List (Option ℕ)) (a : ℕ) (state : ArcState) → list_all (λ word. allows word state) (words_for groups picks a) ≡ all_leave (pick_in picks) state (rulings_at groups a)
+pub words_leave : (groups : List Group) (picks : List (Option ℕ)) (a : ℕ) (state : ArcState) → picks_allow groups picks a state ≡ all_leave (pick_in picks) state (rulings_at groups a)
 words_leave groups picks a state =
     words_from (pick_in picks) state a 0 groups picks (λ i. ap (pick_in picks) (let e : 0 + i ≡ i = omega arith in e))

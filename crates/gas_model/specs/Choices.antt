@@ -67,6 +67,14 @@ words_for (g ∷ groups) [] a = []
 words_for (g ∷ groups) (None ∷ picks) a = words_for groups picks a
 words_for (g ∷ groups) (Some j ∷ picks) a = words_if (slice_get g.decisions j) a ++ words_for groups picks a
 
+-- all of the words allow the state
+abbrev pub words_allow : ArcState → List Allow → Bool
+words_allow state words = list_all (λ word. allows word state) words
+
+-- the picked decisions allow the arc a the state: each word that they have for it does
+abbrev pub picks_allow : List Group → List (Option ℕ) → ℕ → ArcState → Bool
+picks_allow groups picks a state = words_allow state (words_for groups picks a)
+
 -- one decision of each group is picked
 pub record ArePicks (groups : List Group) (picks : List ℕ) : Type 0 where
   pub one_each : length picks ≡ length groups
@@ -74,7 +82,7 @@ pub record ArePicks (groups : List Group) (picks : List ℕ) : Type 0 where
 
 -- the arc a may be in the state: it is one of its kind, and the picked decisions allow it
 abbrev pub may_be : Network → List ℕ → ℕ → ArcRow → ArcState → Bool
-may_be p picks a row state = has_state row.kind state && list_all (λ word. allows word state) (words_for p.groups (map Some picks) a)
+may_be p picks a row state = has_state row.kind state && picks_allow p.groups (map Some picks) a state
 
 -- one decision of each group is picked, and each arc is in a state that it may be in
 pub record IsListed (p : Network) (picks : List ℕ) (states : List ArcState) : Type 0 where
@@ -96,8 +104,11 @@ fixed_under kind named left = option_or (only (states_of kind)) (option_or named
 
 -- the state of the arc a that is fixed: that of a kind with one state, or the one named, or the only one that the picked decisions allow
 abbrev pub fixed_state : Network → PartState → ℕ → ArcRow → Option ArcState
-fixed_state p part a row =
-    fixed_under row.kind (named_state part.states a) (λ state. list_all (λ word. allows word state) (words_for p.groups part.picks a))
+fixed_state p part a row = fixed_under row.kind (named_state part.states a) (picks_allow p.groups part.picks a)
+
+-- the states of the arc a that the picked decisions allow, in the order of its kind
+abbrev pub allowed_states : Network → PartState → ℕ → ArcRow → List ArcState
+allowed_states p part a row = filter (picks_allow p.groups part.picks a) (states_of row.kind)
 
 -- a part state for the problem: its lists have the problem's lengths, its picks are in range, each state that it names is one of the arc's kind
 pub record PartFits (p : Network) (part : PartState) : Type 0 where

@@ -1,11 +1,13 @@
 pub mod Limits
 pub mod Rows
+pub mod Words
 pub mod Choices
 pub mod Rulings
 pub mod Curves
 pub mod Laws
 pub mod Points
 pub mod Boxes
+pub mod BoxLimits
 pub mod Near
 pub mod Texts
 pub mod Within

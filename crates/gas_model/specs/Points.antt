@@ -47,6 +47,17 @@ sum_out x n arcs = sum_arcs (leaving x n) 0 arcs
 abbrev pub sum_in : (ℕ → ℤ) → ℕ → List ArcRow → ℤ
 sum_in x n arcs = sum_arcs (entering x n) 0 arcs
 
+-- f of all arcs but the arc a
+abbrev pub other : ℕ → (ℕ → ArcRow → ℤ) → ℕ → ArcRow → ℤ
+other a f i row = if i == a then pos 0 else f i row
+
+-- the sum of x over the arcs that leave the node n, and over those that enter it, without the arc a
+abbrev pub sum_other_out : ℕ → (ℕ → ℤ) → ℕ → List ArcRow → ℤ
+sum_other_out a x n arcs = sum_arcs (other a (leaving x n)) 0 arcs
+
+abbrev pub sum_other_in : ℕ → (ℕ → ℤ) → ℕ → List ArcRow → ℤ
+sum_other_in a x n arcs = sum_arcs (other a (entering x n)) 0 arcs
+
 -- what leaves the node n less what enters it
 abbrev pub net_flow : (ℕ → ℤ) → ℕ → List ArcRow → ℤ
 net_flow x n arcs = sum_out x n arcs -ℤ sum_in x n arcs

@@ -1,5 +1,5 @@
 -- What the decisions of groups say of an arc.
-use Rattle.std.specs.Prelude.{◌≡◌, ℕ, ◌+◌, ◌==◌, ◌<◌, ◌≤◌, ◌||◌, not, List, [], ◌∷◌, ◌++◌, length, slice_get, slice_index_or, if◌then◌else◌, Bool, false, Option, Some, None}
+use Rattle.std.specs.Prelude.{◌≡◌, ℕ, ◌+◌, ◌==◌, ◌<◌, ◌≤◌, ◌&&◌, ◌||◌, not, List, [], ◌∷◌, ◌++◌, length, slice_get, slice_index_or, if◌then◌else◌, Bool, true, false, Option, Some, None, is_none, is_some}
 use Rattle.std.specs.List.{list_all}
 use Rattle.std.specs.Option.{option_map_or}
 use Rattle.gas_model.specs.declared.rows.Allow.{Allow}
@@ -7,7 +7,10 @@ use Rattle.gas_model.specs.declared.rows.Decision.{Decision}
 use Rattle.gas_model.specs.declared.rows.Group.{Group}
 use Rattle.gas_model.specs.declared.rows.Ruling.{Ruling}
 use Rattle.gas_model.specs.declared.rows.ArcState.{ArcState}
-use Rattle.gas_model.specs.Choices.{allows}
+use Rattle.gas_model.specs.declared.rows.ArcRow.{ArcRow}
+use Rattle.gas_model.specs.declared.rows.PartState.{PartState}
+use Rattle.gas_model.specs.Rows.{Network}
+use Rattle.gas_model.specs.Choices.{allows, fixed_state}
 
 -- what the decision j of the group k says of the arc a by these sets
 abbrev pub rulings_in : (a k j : ℕ) → List (ℕ × Allow) → List Ruling
@@ -65,3 +68,22 @@ all_leave pick state rulings = list_all (λ r. leaves (pick r.group) state r) ru
 -- the decision that is picked for a group, if one is
 abbrev pub pick_in : List (Option ℕ) → ℕ → Option ℕ
 pick_in picks k = slice_index_or picks k None
+
+-- the word that the picked decisions have for an arc allows the state, where they have one
+abbrev pub word_allows : Option Allow → ArcState → Bool
+word_allows None state = true
+word_allows (Some word) state = allows word state
+
+-- the pick of the group that says the rulings, if there are any
+abbrev pub pick_for : (ℕ → Option ℕ) → List Ruling → Option ℕ
+pick_for pick [] = None
+pick_for pick (r ∷ rulings) = pick r.group
+
+-- one group says all of them, and each of its decisions at most one, in the order of the decisions
+pub record AreInOrder (rulings : List Ruling) : Type 0 where
+  pub group : (i j : ℕ) (r s : Ruling) → slice_get rulings i ≡ Some r → slice_get rulings j ≡ Some s → r.group ≡ s.group
+  pub decisions : (i j : ℕ) (r s : Ruling) → i < j → slice_get rulings i ≡ Some r → slice_get rulings j ≡ Some s → r.decision < s.decision
+
+-- the state of the arc a isn't fixed, and each group that has a word for it is picked
+abbrev pub is_free : Network → PartState → ℕ → ArcRow → Bool
+is_free p part a row = is_none (fixed_state p part a row) && list_all (λ r. is_some (pick_in part.picks r.group)) (rulings_at p.groups a)

@@ -1,5 +1,5 @@
 // Names with their places.
-ghost use Rattle.std.specs.Prelude.{◌≡◌, ℕ, ◌∷◌, ◌++◌, [], List, not, position, IfOk, OnOk, if◌then◌else◌, IfSome, ◌<◌, length};
+ghost use Rattle.std.specs.Prelude.{◌≡◌, ℕ, ◌∷◌, ◌++◌, [], List, not, position, IfOk, OnErr, if◌then◌else◌, IfSome, ◌<◌, length};
 ghost use Rattle.std.specs.List.{list_any};
 ghost use Rattle.std.specs.Str.{bytes_eq};
 ghost use Rattle.gas_model.specs.Rows.{is_among};
@@ -33,10 +33,11 @@ impl<'a> Places<'a> {
         }
     }
 
-    /// Adds a name at the end, or answers `false` where it is there.
+    /// Adds a name at the end, or answers `false` where it is there. A growth that finds no memory leaves all as before.
     pub fn add(&mut self, name: &'a str) -> Result<bool, NoMemory>
         ensures fresh { IfOk result (λ b. b ≡ not (list_any (bytes_eq name.now) self.old)) }
         ensures added { IfOk result (λ b. self.new ≡ (if b then self.old ++ name.now ∷ [] else self.old)) }
+        ensures err { OnErr result (self.new ≡ self.old) }
     {
         match self.names.insert_full(name) {
             Ok((_, fresh)) => Ok(fresh),

@@ -1,17 +1,19 @@
 // Problems: rows within the limits, with positions in place of names.
-ghost use Rattle.std.specs.Prelude.{◌≡◌, ◌<◌, Some, length, slice_get, IfOk};
+ghost use Rattle.std.specs.Prelude.{◌≡◌, ◌<◌, Some, length, map, slice_get, IfOk};
 ghost use Rattle.gas_model.specs.Rows.{problem_of, Gives, IsProblem};
 ghost use Rattle.gas_model.specs.Points.{arcs_at};
-ghost use Rattle.gas_model.specs.Choices.{fixed_state, fresh_part, PartFits};
-ghost use Rattle.gas_model.specs.Rulings.{rulings_at};
+ghost use Rattle.gas_model.specs.Choices.{may_be, picks_allow, allowed_states, fixed_state, fresh_part, PartFits};
+ghost use Rattle.gas_model.specs.Rulings.{rulings_at, is_free, word_allows, AreInOrder};
 ghost use Rattle.gas_model.specs.Within.{IsWithin};
+ghost use Rattle.gas_model.specs.declared.rows.ArcRow.{ArcRow};
+ghost use Rattle.gas_model.specs.declared.rows.ArcState.{ArcState};
 
 use crate::collections::{List, NoMemory};
 use crate::incidence::{ArcsAt, arcs_at_nodes};
 use crate::placing::place_rows;
-use crate::rows::{ArcRow, ArcState, Group, ModelFault, NodeRow, PartState, Rows, Ruling};
-use crate::rulings::rulings_of_arcs;
-use crate::states::fixed_by;
+use crate::rows::{Allow, ArcRow, ArcState, Group, ModelFault, NodeRow, PartState, Rows, Ruling};
+use crate::rulings::{are_picked, picked_word, rulings_of_arcs};
+use crate::states::{has_state, only_left, only_state, pick_in, pick_of, states_left, word_allows};
 use std::alloc::Global;
 use std::marker::Model;
 
@@ -98,13 +100,48 @@ impl Problem {
         self.arcs_at[node as usize].as_slice()
     }
 
-    /// What the decisions of all groups say of an arc, in order.
+    /// What the decisions of all groups say of an arc: one group says all of it, each of its decisions at most once, in
+    /// the order of the decisions.
     pub fn rulings_at(&self, arc: u32) -> &[Ruling]
         requires { arc < length self.now.arcs }
         ensures rulings { result.now ≡ rulings_at self.now.groups arc }
+        ensures order { AreInOrder result.now }
         ensures within { IsWithin self.now }
     {
         self.rulings[arc as usize].as_slice()
+    }
+
+    // The word that the picked decisions have for an arc.
+    fn word_for(&self, picks: &[Option<u32>], arc: u32) -> Option<Allow>
+        requires { arc < length self.now.arcs }
+        ensures { (state : ArcState) → word_allows result state ≡ picks_allow self.now.groups picks.now arc state }
+    {
+        let rulings = self.rulings_at(arc);
+        match rulings.first() {
+            None => None,
+            Some(ruling) => picked_word(rulings, pick_in(picks, ruling.group)),
+        }
+    }
+
+    // The word that picks of all groups have for an arc.
+    fn word_in(&self, picks: &[u32], arc: u32) -> Option<Allow>
+        requires { arc < length self.now.arcs }
+        ensures { (state : ArcState) → word_allows result state ≡ picks_allow self.now.groups (map Some picks.now) arc state }
+    {
+        let rulings = self.rulings_at(arc);
+        match rulings.first() {
+            None => None,
+            Some(ruling) => picked_word(rulings, pick_of(picks, ruling.group)),
+        }
+    }
+
+    /// Whether an arc may be in the state under the picks: it is one of its kind, and the picked decisions allow it.
+    pub fn may_be(&self, picks: &[u32], arc: u32, state: ArcState) -> bool
+        requires { arc < length self.now.arcs }
+        ensures { (row : ArcRow) → slice_get self.now.arcs arc ≡ Some row → result ≡ may_be self.now picks.now arc row state }
+    {
+        let kind = &self.arcs()[arc as usize].kind;
+        has_state(kind, state) && word_allows(self.word_in(picks, arc), state)
     }
 
     /// The state of an arc that is fixed: that of a kind with one state, or the one that the part state names, or the
@@ -116,13 +153,39 @@ impl Problem {
     {
         let kind = &self.arcs()[arc as usize].kind;
         let named = part.states.as_slice()[arc as usize];
-        fixed_by(kind, named, part.picks.as_slice(), self.rulings_at(arc))
+        match only_state(kind).or(named) {
+            Some(state) => Some(state),
+            None => only_left(kind, self.word_for(part.picks.as_slice(), arc)),
+        }
+    }
+
+    /// The states of an arc that the picked decisions of a part state allow, in the order of its kind.
+    pub fn allowed_states(&self, part: &PartState, arc: u32) -> Result<Vec<ArcState>, NoMemory>
+        requires { arc < length self.now.arcs }
+        ensures { (row : ArcRow) → slice_get self.now.arcs arc ≡ Some row → IfOk result (λ left. left.items ≡ allowed_states self.now part.now arc row) }
+    {
+        let alloc = *self.rulings.allocator();
+        let kind = &self.arcs()[arc as usize].kind;
+        states_left(alloc, kind, self.word_for(part.picks.as_slice(), arc))
+    }
+
+    /// Whether the state of an arc isn't fixed, and each group that has a word for it is picked.
+    pub fn is_free(&self, part: &PartState, arc: u32) -> bool
+        requires fits { PartFits self.now part.now }
+        requires within { arc < length self.now.arcs }
+        ensures { (row : ArcRow) → slice_get self.now.arcs arc ≡ Some row → result ≡ is_free self.now part.now arc row }
+    {
+        match self.state_of(part, arc) {
+            Some(_) => false,
+            None => are_picked(part.picks.as_slice(), self.rulings_at(arc)),
+        }
     }
 
     /// The part state in which nothing is picked and no state is named.
-    pub fn fresh(&self, alloc: Global) -> Result<PartState, NoMemory>
+    pub fn fresh(&self) -> Result<PartState, NoMemory>
         ensures { IfOk result (λ part. part ≡ fresh_part self.now) }
     {
+        let alloc = *self.rulings.allocator();
         Ok(PartState {
             picks: List::filled(alloc, None, self.groups.as_slice().len())?,
             states: List::filled(alloc, None, self.arcs.as_slice().len())?,

@@ -1,9 +1,12 @@
 // What the decisions of groups say of each arc.
-ghost use Rattle.std.specs.Prelude.{◌<◌, ◌≤◌, [], length, map, IfOk, OnOk};
-ghost use Rattle.gas_model.specs.Rulings.{rulings_in, rulings_by, one_ruling, Grew, KeepsRulings, NameArcs, DecideArcs, GroupsDecideArcs};
+ghost use Rattle.std.specs.Prelude.{◌≡◌, ◌<◌, ◌≤◌, ℕ, [], length, map, Some, IfOk, OnOk, Option, is_some};
+ghost use Rattle.std.specs.List.{list_all};
+ghost use Rattle.gas_model.specs.Rulings.{rulings_in, rulings_by, one_ruling, all_leave, word_allows, pick_in, pick_for, AreInOrder, Grew, KeepsRulings, NameArcs, DecideArcs, GroupsDecideArcs};
+ghost use Rattle.gas_model.specs.declared.rows.ArcState.{ArcState};
 
 use crate::collections::NoMemory;
 use crate::rows::{Allow, Decision, Group, Ruling};
+use crate::states::pick_in;
 use std::alloc::Global;
 
 // Adds a ruling to the list of an arc.
@@ -78,4 +81,40 @@ pub fn rulings_of_arcs(
         note_decisions(&mut lists, k as u32, group.decisions.as_slice())?;
     }
     Ok(lists)
+}
+
+// The word of a decision among rulings of its group.
+fn word_of(rulings: &[Ruling], decision: u32) -> Option<Allow>
+    requires { AreInOrder rulings.now }
+    ensures { (pick : ℕ → Option ℕ) (state : ArcState) → pick_for pick rulings.now ≡ Some decision
+        → word_allows result state ≡ all_leave pick state rulings.now }
+{
+    match rulings.binary_search_by_key(&decision, |ruling| ruling.decision) {
+        Ok(place) => Some(rulings[place].allow),
+        Err(_) => None,
+    }
+}
+
+/// The word that the picked decision of their group has, of rulings in order: `pick` is that decision, where one is
+/// picked and there are rulings.
+pub fn picked_word(rulings: &[Ruling], pick: Option<u32>) -> Option<Allow>
+    requires { AreInOrder rulings.now }
+    ensures { (picks : ℕ → Option ℕ) (state : ArcState) → pick_for picks rulings.now ≡ pick
+        → word_allows result state ≡ all_leave picks state rulings.now }
+{
+    word_of(rulings, pick?)
+}
+
+// Whether a decision of a group is picked.
+fn is_picked(picks: &[Option<u32>], group: u32) -> bool
+    ensures { result ≡ is_some (pick_in picks.now group) }
+{
+    pick_in(picks, group).is_some()
+}
+
+/// Whether each group that says one of the rulings is picked.
+pub fn are_picked(picks: &[Option<u32>], rulings: &[Ruling]) -> bool
+    ensures { result ≡ list_all (λ r. is_some (pick_in picks.now r.group)) rulings.now }
+{
+    rulings.iter().all(|ruling| is_picked(picks, ruling.group))
 }

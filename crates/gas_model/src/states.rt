@@ -1,11 +1,13 @@
 // The states of kinds, and the words of decisions that allow them.
-ghost use Rattle.std.specs.Prelude.{◌≡◌, [], ◌∷◌, filter, find, Bool};
-ghost use Rattle.gas_model.specs.Choices.{allows, has_state, states_of, only, fixed_under};
+ghost use Rattle.std.specs.Prelude.{◌≡◌, [], ◌∷◌, filter, find, map, Some, None, Bool, IfOk};
+ghost use Rattle.gas_model.specs.Choices.{allows, has_state, states_of, only};
 ghost use Rattle.gas_model.specs.Rows.{takes};
-ghost use Rattle.gas_model.specs.Rulings.{leaves, all_leave, pick_in};
+ghost use Rattle.gas_model.specs.Rulings.{leaves, all_leave, pick_in, word_allows};
 ghost use Rattle.gas_model.specs.declared.rows.ArcState.{ArcState};
 
+use crate::collections::NoMemory;
 use crate::rows::{Allow, ArcKind, ArcState, Ruling};
+use std::alloc::Global;
 
 /// Whether a kind of arc has the state.
 pub fn has_state(kind: &ArcKind, state: ArcState) -> bool
@@ -32,6 +34,16 @@ pub fn allows(word: Allow, state: ArcState) -> bool
     }
 }
 
+/// Whether the word that the picked decisions have for an arc, if they have one, allows the state.
+pub fn word_allows(word: Option<Allow>, state: ArcState) -> bool
+    ensures { result ≡ word_allows word state }
+{
+    match word {
+        None => true,
+        Some(word) => allows(word, state),
+    }
+}
+
 /// Whether a kind may be decided by the word.
 pub fn takes(kind: &ArcKind, word: Allow) -> bool
     ensures { result ≡ takes kind.now word }
@@ -53,13 +65,21 @@ pub fn leaves(pick: Option<u32>, state: ArcState, ruling: &Ruling) -> bool
     pick != Some(ruling.decision) || allows(ruling.allow, state)
 }
 
-fn pick_in(picks: &[Option<u32>], group: u32) -> Option<u32>
+/// The decision that is picked for a group, if one is.
+pub fn pick_in(picks: &[Option<u32>], group: u32) -> Option<u32>
     ensures { result ≡ pick_in picks.now group }
 {
     match picks.get(group as usize) {
         Some(pick) => *pick,
         None => None,
     }
+}
+
+/// The decision of these picks, one of each group, that is that of a group.
+pub fn pick_of(picks: &[u32], group: u32) -> Option<u32>
+    ensures { result ≡ pick_in (map Some picks.now) group }
+{
+    picks.get(group as usize).copied()
 }
 
 /// Whether all of the rulings of an arc leave it the state, under these picks.
@@ -94,43 +114,65 @@ fn only_of_active(active: bool, bypass: bool, shut: bool) -> Option<ArcState>
     }
 }
 
-// The only state of a valve that the rulings leave under these picks.
-fn only_valve_left(picks: &[Option<u32>], rulings: &[Ruling]) -> Option<ArcState>
-    ensures { result ≡ only (filter (λ state. all_leave (pick_in picks.now) state rulings.now) (ArcState.Opened ∷ ArcState.Shut ∷ [])) }
+// The only state of a valve that the word leaves.
+fn only_valve_left(word: Option<Allow>) -> Option<ArcState>
+    ensures { result ≡ only (filter (word_allows word) (ArcState.Opened ∷ ArcState.Shut ∷ [])) }
 {
-    let opened = all_leave(picks, ArcState::Opened, rulings);
-    let shut = all_leave(picks, ArcState::Shut, rulings);
+    let opened = word_allows(word, ArcState::Opened);
+    let shut = word_allows(word, ArcState::Shut);
     only_of_valve(opened, shut)
 }
 
-// The only state of a control valve or a station that the rulings leave under these picks.
-fn only_active_left(picks: &[Option<u32>], rulings: &[Ruling]) -> Option<ArcState>
-    ensures { result ≡ only (filter (λ state. all_leave (pick_in picks.now) state rulings.now) (ArcState.Active ∷ ArcState.Bypass ∷ ArcState.Shut ∷ [])) }
+// The only state of a control valve or a station that the word leaves.
+fn only_active_left(word: Option<Allow>) -> Option<ArcState>
+    ensures { result ≡ only (filter (word_allows word) (ArcState.Active ∷ ArcState.Bypass ∷ ArcState.Shut ∷ [])) }
 {
-    let active = all_leave(picks, ArcState::Active, rulings);
-    let bypass = all_leave(picks, ArcState::Bypass, rulings);
-    let shut = all_leave(picks, ArcState::Shut, rulings);
+    let active = word_allows(word, ArcState::Active);
+    let bypass = word_allows(word, ArcState::Bypass);
+    let shut = word_allows(word, ArcState::Shut);
     only_of_active(active, bypass, shut)
 }
 
-/// The state of a kind that is fixed: its only one, or the one named, or the only one that the rulings leave under
-/// these picks.
-pub fn fixed_by(
-    kind: &ArcKind,
-    named: Option<ArcState>,
-    picks: &[Option<u32>],
-    rulings: &[Ruling],
-) -> Option<ArcState>
-    ensures { result ≡ fixed_under kind.now named (λ state. all_leave (pick_in picks.now) state rulings.now) }
+/// The only state of a kind that has one.
+pub fn only_state(kind: &ArcKind) -> Option<ArcState>
+    ensures { result ≡ only (states_of kind.now) }
 {
     match kind {
         ArcKind::Pipe { .. } | ArcKind::Short | ArcKind::Resist { .. } | ArcKind::Loss { .. } =>
             Some(ArcState::Opened),
-        ArcKind::Valve => named.or(only_valve_left(picks, rulings)),
-        ArcKind::Control { .. } | ArcKind::Station { .. } => {
-            named.or(only_active_left(picks, rulings))
-        }
+        ArcKind::Valve | ArcKind::Control { .. } | ArcKind::Station { .. } => None,
     }
+}
+
+/// The only state of a kind of several states that the word of the picked decisions leaves, if they have one.
+pub fn only_left(kind: &ArcKind, word: Option<Allow>) -> Option<ArcState>
+    requires { only (states_of kind.now) ≡ None }
+    ensures { result ≡ only (filter (word_allows word) (states_of kind.now)) }
+{
+    match kind {
+        ArcKind::Pipe { .. } | ArcKind::Short | ArcKind::Resist { .. } | ArcKind::Loss { .. } => {
+            None
+        }
+        ArcKind::Valve => only_valve_left(word),
+        ArcKind::Control { .. } | ArcKind::Station { .. } => only_active_left(word),
+    }
+}
+
+/// The states of a kind that the word leaves, in their order.
+pub fn states_left(
+    alloc: Global,
+    kind: &ArcKind,
+    word: Option<Allow>,
+) -> Result<Vec<ArcState>, NoMemory>
+    ensures { IfOk result (λ left. left.items ≡ filter (word_allows word) (states_of kind.now)) }
+{
+    Ok(
+        states_of(kind)
+            .iter()
+            .copied()
+            .filter(|state| word_allows(word, *state))
+            .collect(alloc)?,
+    )
 }
 
 /// The states of a kind, in their order.

@@ -92,7 +92,8 @@ fn lists_bytes_and_names_grow(rt: HostRuntime) -> Result<(), Fail> {
     let alloc = rt.alloc();
     let mut list: List<u8> = List::filled(alloc, 7, 2)?;
     list.push(8)?;
-    assert_eq!(rt; list.as_slice(), [7, 7, 8].as_slice());
+    list.put(0, 9);
+    assert_eq!(rt; list.as_slice(), [9, 7, 8].as_slice());
     let mut bytes = Bytes::new(alloc);
     bytes.push(b'x')?;
     bytes.append(b"yz")?;
@@ -117,7 +118,7 @@ fn a_pipe_is_placed_between_its_nodes(rt: HostRuntime) -> Result<(), Fail> {
 fn nothing_is_picked_or_named_at_first(rt: HostRuntime) -> Result<(), Fail> {
     let alloc = rt.alloc();
     let p = problem(alloc, two_nodes(alloc, "b", 9)?, "a", "b")?;
-    let part = p.fresh(alloc)?;
+    let part = p.fresh()?;
     assert_eq!(rt; part.picks.as_slice().len(), p.groups().len());
     assert_eq!(rt; part.states.as_slice(), [None].as_slice());
     Ok(())
@@ -126,10 +127,123 @@ fn nothing_is_picked_or_named_at_first(rt: HostRuntime) -> Result<(), Fail> {
 #[test]
 fn the_first_offence_is_answered(rt: HostRuntime) -> Result<(), Fail> {
     let alloc = rt.alloc();
-    assert_eq!(rt; offence(alloc, "b", 100_000_001, "a", "c")?, "over limit");
-    assert_eq!(rt; offence(alloc, "a", 9, "a", "c")?, "twice named");
-    assert_eq!(rt; offence(alloc, "b", 9, "a", "c")?, "no such node");
-    assert_eq!(rt; offence(alloc, "b", 9, "b", "b")?, "same ends");
+    let offences = [
+        offence(alloc, "b", 100_000_001, "a", "c")?,
+        offence(alloc, "a", 9, "a", "c")?,
+        offence(alloc, "b", 9, "a", "c")?,
+        offence(alloc, "b", 9, "b", "b")?,
+    ];
+    assert_eq!(rt;
+        offences,
+        ["over limit", "twice named", "no such node", "same ends"]
+    );
+    Ok(())
+}
+
+// An id of so many bytes.
+fn long_id(alloc: Global, count: usize) -> Result<Name, NoMemory> {
+    let mut id = Name::new(alloc);
+    for _ in 0..count {
+        id.push_text("x")?;
+    }
+    Ok(id)
+}
+
+#[test]
+fn id_of_201_bytes_is_too_long(rt: HostRuntime) -> Result<(), Fail> {
+    let alloc = rt.alloc();
+    let longest = long_id(alloc, 200)?;
+    let long = long_id(alloc, 201)?;
+    let offences = [
+        offence(alloc, longest.as_str(), 9, "a", longest.as_str())?,
+        offence(alloc, long.as_str(), 9, "a", long.as_str())?,
+    ];
+    assert_eq!(rt; offences, ["none", "over limit"]);
+    Ok(())
+}
+
+// So many nodes, pipes and groups, each of so many decisions; all without an id.
+fn many_rows(
+    alloc: Global,
+    node_count: usize,
+    arc_count: usize,
+    group_count: usize,
+    decision_count: usize,
+) -> Result<Rows, NoMemory> {
+    let mut nodes = List::new(alloc);
+    for _ in 0..node_count {
+        nodes.push(node(alloc, "", 9)?)?;
+    }
+    let mut arcs = List::new(alloc);
+    for _ in 0..arc_count {
+        arcs.push(arc(alloc, "", "", "", PIPE)?)?;
+    }
+    Ok(Rows {
+        nodes,
+        arcs,
+        groups: many_groups(alloc, group_count, decision_count)?,
+    })
+}
+
+fn many_groups(
+    alloc: Global,
+    group_count: usize,
+    decision_count: usize,
+) -> Result<List<GroupText>, NoMemory> {
+    let mut groups = List::new(alloc);
+    for _ in 0..group_count {
+        groups.push(GroupText {
+            id: Name::new(alloc),
+            decisions: many_decisions(alloc, decision_count)?,
+        })?;
+    }
+    Ok(groups)
+}
+
+fn many_decisions(alloc: Global, count: usize) -> Result<List<DecisionText>, NoMemory> {
+    let mut decisions = List::new(alloc);
+    for _ in 0..count {
+        decisions.push(DecisionText {
+            id: Name::new(alloc),
+            sets: List::new(alloc),
+        })?;
+    }
+    Ok(decisions)
+}
+
+// What there is too many of, among these rows.
+fn too_many(alloc: Global, rows: Rows) -> Option<Many> {
+    match Problem::make(alloc, rows) {
+        Err(ModelFault::TooMany { what }) => Some(what),
+        Err(_) => None,
+        Ok(_) => None,
+    }
+}
+
+// 2,000 nodes, 2,000 arcs, 256 groups and 1,024 decisions of a group are the most, and are counted before all else.
+#[test]
+fn one_more_than_the_most_is_too_many(rt: HostRuntime) -> Result<(), Fail> {
+    let alloc = rt.alloc();
+    let most = [
+        too_many(alloc, many_rows(alloc, 2_000, 2_000, 256, 1)?),
+        too_many(alloc, many_rows(alloc, 1, 1, 1, 1_024)?),
+    ];
+    let more = [
+        too_many(alloc, many_rows(alloc, 2_001, 2_001, 257, 1)?),
+        too_many(alloc, many_rows(alloc, 1, 2_001, 257, 1)?),
+        too_many(alloc, many_rows(alloc, 1, 1, 257, 1_025)?),
+        too_many(alloc, many_rows(alloc, 1, 1, 1, 1_025)?),
+    ];
+    assert_eq!(rt; most, [None, None]);
+    assert_eq!(rt;
+        more,
+        [
+            Some(Many::Nodes),
+            Some(Many::Arcs),
+            Some(Many::Groups),
+            Some(Many::Decisions)
+        ]
+    );
     Ok(())
 }
 
@@ -197,21 +311,71 @@ fn group_offence(
     }
 }
 
+// The rows of `decided`, with one more group in place of the first or after it.
+fn with_group(alloc: Global, last: GroupText) -> Result<Rows, NoMemory> {
+    let shut = ("v", Allow::Shut);
+    let mut rows = decided(alloc, shut, shut)?;
+    rows.groups.push(last)?;
+    Ok(rows)
+}
+
+// What is wrong with such rows, in a word.
+fn last_offence(alloc: Global, last: GroupText) -> Result<&'static str, NoMemory> {
+    match Problem::make(alloc, with_group(alloc, last)?) {
+        Err(ModelFault::EmptyGroup { .. }) => Ok("empty group"),
+        Err(ModelFault::TwiceDecided { .. }) => Ok("twice decided"),
+        Err(_) => Ok("other"),
+        Ok(_) => Ok("none"),
+    }
+}
+
+// A group `h` of one decision with words for these two arcs.
+fn one_decision(alloc: Global, first: &str, second: &str) -> Result<GroupText, NoMemory> {
+    let mut only = decision(alloc, "d", first, Allow::Shut)?;
+    only.sets.push(SetText {
+        arc: Name::of(alloc, second)?,
+        allow: Allow::Shut,
+    })?;
+    let mut decisions = List::new(alloc);
+    decisions.push(only)?;
+    Ok(GroupText {
+        id: Name::of(alloc, "h")?,
+        decisions,
+    })
+}
+
+// The valve is decided by the first group, so that no other group and no decision twice may decide it.
+#[test]
+fn an_arc_is_decided_once(rt: HostRuntime) -> Result<(), Fail> {
+    let alloc = rt.alloc();
+    let none = GroupText {
+        id: Name::of(alloc, "h")?,
+        decisions: List::new(alloc),
+    };
+    let offences = [
+        last_offence(alloc, none)?,
+        last_offence(alloc, one_decision(alloc, "c", "v")?)?,
+        last_offence(alloc, one_decision(alloc, "c", "c")?)?,
+    ];
+    assert_eq!(rt; offences, ["empty group", "twice decided", "twice decided"]);
+    Ok(())
+}
+
 // A pipe takes no word, a valve isn't active, and both decisions of a group may speak of one arc.
 #[test]
 fn a_group_speaks_of_valves_and_stations(rt: HostRuntime) -> Result<(), Fail> {
     let alloc = rt.alloc();
     let shut = ("v", Allow::Shut);
-    assert_eq!(rt;
+    let offences = [
         group_offence(alloc, shut, ("w", Allow::Shut))?,
-        "no such arc"
-    );
-    assert_eq!(rt;
         group_offence(alloc, shut, ("p", Allow::Shut))?,
-        "not active"
+        group_offence(alloc, ("v", Allow::On), shut)?,
+        group_offence(alloc, shut, ("v", Allow::Opened))?,
+    ];
+    assert_eq!(rt;
+        offences,
+        ["no such arc", "not active", "not active", "none"]
     );
-    assert_eq!(rt; group_offence(alloc, ("v", Allow::On), shut)?, "not active");
-    assert_eq!(rt; group_offence(alloc, shut, ("v", Allow::Opened))?, "none");
     Ok(())
 }
 
@@ -248,5 +412,55 @@ fn a_picked_decision_fixes_the_valve(rt: HostRuntime) -> Result<(), Fail> {
         Some([open, Some(ArcState::Shut), None])
     );
     assert_eq!(rt; fixed(alloc, &p, 1)?, Some([open, None, None]));
+    Ok(())
+}
+
+// How many states the pick of this decision leaves to the station, and whether its branch is open.
+fn left(alloc: Global, p: &Problem, pick: u32) -> Result<Option<(usize, bool)>, NoMemory> {
+    let groups = p.groups();
+    if groups.len() != 1
+        || p.arcs().len() != 3
+        || pick as usize >= groups[0].decisions.as_slice().len()
+    {
+        return Ok(None);
+    }
+    let part = PartState {
+        picks: List::filled(alloc, Some(pick), 1)?,
+        states: List::filled(alloc, None, 3)?,
+    };
+    Ok(Some((p.allowed_states(&part, 2)?.len(), p.is_free(&part, 2))))
+}
+
+// Whether the station may be bypassed or shut under the second decision, and the valve open under the first.
+fn may_be(p: &Problem) -> Option<[bool; 3]> {
+    if p.arcs().len() != 3 {
+        return None;
+    }
+    Some([
+        p.may_be(&[1], 2, ArcState::Bypass),
+        p.may_be(&[1], 2, ArcState::Shut),
+        p.may_be(&[0], 1, ArcState::Opened),
+    ])
+}
+
+// The first decision says nothing of the station; the second turns it on.
+#[test]
+fn a_station_that_is_on_is_active_or_bypassed(rt: HostRuntime) -> Result<(), Fail> {
+    let alloc = rt.alloc();
+    let p = Problem::make(alloc, decided(alloc, ("v", Allow::Shut), ("c", Allow::On))?)?;
+    let counts = [left(alloc, &p, 0)?, left(alloc, &p, 1)?];
+    assert_eq!(rt; counts, [Some((3, true)), Some((2, true))]);
+    assert_eq!(rt; may_be(&p), Some([true, false, false]));
+    Ok(())
+}
+
+#[test]
+fn each_state_has_its_word(rt: HostRuntime) -> Result<(), Fail> {
+    let named = [
+        state_named("bypass"),
+        state_named("shut"),
+        state_named(state_word(ArcState::Shut)),
+    ];
+    assert_eq!(rt; named, [Some(ArcState::Bypass), None, Some(ArcState::Shut)]);
     Ok(())
 }

@@ -1,7 +1,6 @@
 use Rattle.std.proofs.Common.{sym}
-use Rattle.gas_model.specs.Rulings.{all_leave, pick_in}
+use Rattle.gas_model.specs.Rulings.{word_allows}
 use Rattle.gas_model.proofs.states.only_active_left.Goals as goal
 
 pub returns : goal.returns
-returns c =
-    c.only_of_active.ensures (λ state. all_leave (pick_in c.args.picks.now) state c.args.rulings.now) (sym c.all_leave-active.ensures) (sym c.all_leave-bypass.ensures) (sym c.all_leave-shut.ensures)
+returns c = c.only_of_active.ensures (word_allows c.args.word) (sym c.word_allows-active.ensures) (sym c.word_allows-bypass.ensures) (sym c.word_allows-shut.ensures)

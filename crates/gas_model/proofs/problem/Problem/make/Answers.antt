@@ -1,4 +1,9 @@
 use Rattle.gas_model.proofs.Limited.{ends_limited, groups_limited, placed_network, placed_problem, placed_within}
+use Rattle.std.proofs.Common.{subst}
+use Rattle.gas_model.specs.Rows.{Network}
+use Rattle.gas_model.specs.Rulings.{rulings_at, AreInOrder}
+use Rattle.gas_model.proofs.InOrder.{ordered}
+use Rattle.gas_model.proofs.Remade.{placed}
 use Rattle.gas_model.proofs.problem.Problem.make.Goals as goal
 
 pub arcs_at_nodes-requires : goal.arcs_at_nodes-requires
@@ -21,4 +26,5 @@ invariant_of-result c = record {
   within = placed_within c.args.rows c.in_ok-placed.placed c.in_ok-placed.ensures.clean c.in_ok-placed.ensures.placed;
   arcs_at = rw (c.as_slice.ensures, c.as_slice-2.ensures) at c.in_ok-arcs_at.ensures;
   rulings = rw (c.as_slice-3.ensures, c.as_slice-4.ensures) at c.in_ok-rulings.ensures;
+  order = λ i. subst (λ (p : Network). AreInOrder (rulings_at p.groups i)) (placed c.args.rows c.in_ok-placed.placed c.in_ok-placed.ensures.placed) (ordered c.args.rows c.in_ok-placed.ensures.clean i);
 }
