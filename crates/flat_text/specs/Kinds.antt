@@ -1,6 +1,8 @@
 -- The words of kinds and of decisions, and the numbers of a kind.
 use Rattle.std.specs.Prelude.{ℕ, List, if◌then◌else◌, Option, Some, None, Result, Ok, Err, codes}
 use Rattle.std.specs.Str.{bytes_eq}
+use Rattle.gas_model.specs.Words.{state_word}
+use Rattle.gas_model.specs.declared.rows.ArcState.TheVariants as states
 use Rattle.gas_model.specs.declared.rows.Allow.{Allow}
 use Rattle.gas_model.specs.declared.rows.Allow.TheVariants.{Opened, Shut, Active, Bypass, On}
 use Rattle.gas_model.specs.declared.rows.ArcKind.{ArcKind}
@@ -50,9 +52,9 @@ kind_at word bytes =
 -- what the word of a decision allows
 unfoldable pub allow_of : List ℕ → Option Allow
 allow_of word =
-    if bytes_eq word (codes "open") then Some Opened
-    else if bytes_eq word (codes "closed") then Some Shut
-    else if bytes_eq word (codes "active") then Some Active
-    else if bytes_eq word (codes "bypass") then Some Bypass
+    if bytes_eq word (state_word states.Opened) then Some Opened
+    else if bytes_eq word (state_word states.Shut) then Some Shut
+    else if bytes_eq word (state_word states.Active) then Some Active
+    else if bytes_eq word (state_word states.Bypass) then Some Bypass
     else if bytes_eq word (codes "on") then Some On
     else None

@@ -2,6 +2,8 @@
 use Rattle.std.specs.Prelude.{◌≡◌, ℕ, true, List, [], ◌∷◌, ◌++◌, map, ℤ, codes}
 use Rattle.line_text.specs.Numerals.{signed_numeral}
 use Rattle.std.specs.List.{flat_map, list_all}
+use Rattle.gas_model.specs.Words.{state_word}
+use Rattle.gas_model.specs.declared.rows.ArcState.TheVariants as states
 use Rattle.gas_model.specs.declared.rows.NodeRow.{NodeRow}
 use Rattle.gas_model.specs.declared.rows.ArcKind.{ArcKind}
 use Rattle.gas_model.specs.declared.rows.ArcKind.TheVariants.{Pipe, Short, Resist, Loss, Valve, Control, Station}
@@ -57,10 +59,10 @@ abbrev pub arc_line : ArcText → List ℕ
 arc_line a = line (kind_word a.kind) (arc_fields a)
 
 abbrev pub allow_word : Allow → List ℕ
-allow_word Opened = codes "open"
-allow_word Shut = codes "closed"
-allow_word Active = codes "active"
-allow_word Bypass = codes "bypass"
+allow_word Opened = state_word states.Opened
+allow_word Shut = state_word states.Shut
+allow_word Active = state_word states.Active
+allow_word Bypass = state_word states.Bypass
 allow_word On = codes "on"
 
 abbrev pub set_line : SetText → List ℕ

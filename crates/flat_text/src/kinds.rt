@@ -6,7 +6,7 @@ ghost use Rattle.flat_text.specs.Spelling.{kind_word, allow_word};
 
 use crate::fault::LineFault;
 use crate::fields::{drag_at, number_field};
-use gas_model::{Allow, ArcKind};
+use gas_model::{Allow, ArcKind, ArcState, state_word};
 
 /// The least and the greatest loss.
 #[tactic(auto, unfolding(crate::specs::Kinds::loss_at))]
@@ -92,13 +92,13 @@ pub fn kind_at<'a>(word: &[u8], bytes: &'a [u8]) -> Result<(ArcKind, &'a [u8]), 
 pub fn allow_of(word: &str) -> Option<Allow>
     ensures { result ≡ allow_of word.now }
 {
-    if word == "open" {
+    if word == state_word(ArcState::Opened) {
         Some(Allow::Opened)
-    } else if word == "closed" {
+    } else if word == state_word(ArcState::Shut) {
         Some(Allow::Shut)
-    } else if word == "active" {
+    } else if word == state_word(ArcState::Active) {
         Some(Allow::Active)
-    } else if word == "bypass" {
+    } else if word == state_word(ArcState::Bypass) {
         Some(Allow::Bypass)
     } else if word == "on" {
         Some(Allow::On)
@@ -127,10 +127,10 @@ pub fn allow_word(allow: Allow) -> &'static str
     ensures { result.now ≡ allow_word allow }
 {
     match allow {
-        Allow::Opened => "open",
-        Allow::Shut => "closed",
-        Allow::Active => "active",
-        Allow::Bypass => "bypass",
+        Allow::Opened => state_word(ArcState::Opened),
+        Allow::Shut => state_word(ArcState::Shut),
+        Allow::Active => state_word(ArcState::Active),
+        Allow::Bypass => state_word(ArcState::Bypass),
         Allow::On => "on",
     }
 }

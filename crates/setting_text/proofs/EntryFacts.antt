@@ -1,6 +1,6 @@
 -- An entry is read as what it says, and only a row's own entry is read.
 use Rattle.std.proofs.Common.{◌≡◌, ℕ, suc, ◌^◌, ◌<◌, ◌≤◌, not, List, [], ◌∷◌, length, position, Bool, true, false, cond, Option, Some, None, option_and_then, Result, Ok, Err, ok_or, ℤ, pos, negsuc, bytes_eq, refl, sym, ap, ◌∙◌, subst, arith, lit<}
-use Rattle.std.specs.Prelude.{◌==◌, codes, int_le, nat_lt, slice_get}
+use Rattle.std.specs.Prelude.{◌==◌, int_le, nat_lt, slice_get}
 use Rattle.std.specs.Option.{option_map_or}
 use Rattle.std.proofs.lemmas.Bool.{and_parts, false≢true, eqb-true, leb-true, lt-ltb, ltb-true, eq-eqb}
 use Rattle.std.proofs.lemmas.List.Quantifiers.{position-Some}
@@ -10,7 +10,6 @@ use Rattle.gas_model.specs.declared.rows.NodeRow.{NodeRow}
 use Rattle.gas_model.specs.declared.rows.ArcKind.{ArcKind}
 use Rattle.gas_model.specs.declared.rows.ArcRow.{ArcRow}
 use Rattle.gas_model.specs.declared.rows.ArcState.{ArcState}
-use Rattle.gas_model.specs.declared.rows.ArcState.TheVariants.{Opened, Shut, Active, Bypass}
 use Rattle.gas_model.specs.declared.rows.Decision.{Decision}
 use Rattle.gas_model.specs.declared.rows.Group.{Group}
 use Rattle.gas_model.specs.Limits.{between, is_flow, is_square}
@@ -23,8 +22,10 @@ use Rattle.setting_text.specs.declared.fault.Key.TheVariants as key
 use Rattle.setting_text.specs.declared.fault.SettingFault.{SettingFault}
 use Rattle.setting_text.specs.declared.fault.SettingFault.TheVariants as fault
 use Rattle.setting_text.specs.declared.entries.ArcEntry.{ArcEntry}
-use Rattle.setting_text.specs.Writing.{list, state_word, decision_id, group_data, node_data, entries}
-use Rattle.setting_text.specs.Reading.{◌>>=◌, listed, text_at, is_text, is_entry, number_at, state_named, of_kind, state_at, arc_entry, decision_place, group_entry, node_entry, read_each, array_of}
+use Rattle.setting_text.specs.Writing.{list, decision_id, group_data, node_data, entries}
+use Rattle.gas_model.specs.Words.{state_word, state_named}
+use Rattle.gas_model.proofs.StateWords.{word_names, named_only}
+use Rattle.setting_text.specs.Reading.{◌>>=◌, listed, text_at, is_text, is_entry, number_at, of_kind, state_at, arc_entry, decision_place, group_entry, node_entry, read_each, array_of}
 use Rattle.setting_text.proofs.Canonical.{IsCanonical, ItemsAreCanonical}
 use Rattle.setting_text.proofs.Lists.{listed_items}
 use Rattle.setting_text.proofs.Ids.{same_bytes, is_there}
@@ -96,31 +97,9 @@ three_form id d e = by (begins 3 id d e)
 
 -- ---- states
 
--- a state is named by its word alone
-named_only : (w : List ℕ) (s : ArcState) → state_named w ≡ Some s → w ≡ state_word s
-named_only w s e = by (bytes_eq w (codes "open")) (bytes_eq w (codes "closed")) (bytes_eq w (codes "active")) (bytes_eq w (codes "bypass")) refl refl refl refl e
-  where
-    is : (word : List ℕ) (t : ArcState) → bytes_eq w word ≡ true → word ≡ state_word t → ◌≡◌ {A = Option ArcState} (Some t) (Some s) → w ≡ state_word s
-    is word t b f g = let same : t ≡ s = cc in (bytes_eq-Decides w word).0 b ∙ f ∙ ap state_word same
-
-    by : (o c a b : Bool) → bytes_eq w (codes "open") ≡ o → bytes_eq w (codes "closed") ≡ c → bytes_eq w (codes "active") ≡ a → bytes_eq w (codes "bypass") ≡ b
-        → cond o (Some Opened) (cond c (Some Shut) (cond a (Some Active) (cond b (Some Bypass) None))) ≡ Some s → w ≡ state_word s
-    by true c a b ho hc ha hb g = is (codes "open") Opened ho refl g
-    by false true a b ho hc ha hb g = is (codes "closed") Shut hc refl g
-    by false false true b ho hc ha hb g = is (codes "active") Active ha refl g
-    by false false false true ho hc ha hb g = is (codes "bypass") Bypass hb refl g
-    by false false false false ho hc ha hb g = absurd cc
-
--- a state's word names it
-named_back : (s : ArcState) → state_named (state_word s) ≡ Some s
-named_back Opened = refl
-named_back Shut = refl
-named_back Active = refl
-named_back Bypass = refl
-
 -- the word of a state of the kind is read
 state_back : (kind : ArcKind) (s : ArcState) → has_state kind s ≡ true → state_at kind (Some (string (state_word s))) ≡ Ok s
-state_back kind s h = rw (named_back s, h) refl
+state_back kind s h = rw (word_names s, h) refl
 
 -- only the word of a state of the kind is read
 state_only : (kind : ArcKind) (y : Data) (s : ArcState) → state_at kind (Some y) ≡ Ok s → (y ≡ string (state_word s)) × (has_state kind s ≡ true)

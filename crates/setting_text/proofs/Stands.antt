@@ -26,7 +26,8 @@ use Rattle.setting_text.specs.declared.fault.Key.TheVariants as key
 use Rattle.setting_text.specs.declared.fault.SettingFault.{SettingFault}
 use Rattle.setting_text.specs.declared.fault.SettingFault.TheVariants as fault
 use Rattle.setting_text.specs.declared.entries.ArcEntry.{ArcEntry}
-use Rattle.setting_text.specs.Writing.{list, state_word, decision_id, group_data, node_data, entries, arc_entries, setting_data, setting_text}
+use Rattle.setting_text.specs.Writing.{list, decision_id, group_data, node_data, entries, arc_entries, setting_data, setting_text}
+use Rattle.gas_model.specs.Words.{state_word}
 use Rattle.setting_text.specs.Reading.{◌>>=◌, arc_entry, decision_place, group_entry, node_entry, read_each, array_of, is_whole, entry_state, entry_flow, setting_in, value_of, setting_of, AreOfKinds, StandsFor, IsRead, Gives}
 use Rattle.setting_text.proofs.Canonical.{IsCanonical, KeysAscend, canonical-read, ascend-read}
 use Rattle.setting_text.proofs.Whole.{three, whole_is}

@@ -6,7 +6,7 @@ use Rattle.gas_model.specs.declared.rows.NodeRow.{NodeRow}
 use Rattle.gas_model.specs.declared.rows.ArcKind.{ArcKind}
 use Rattle.gas_model.specs.declared.rows.ArcRow.{ArcRow}
 use Rattle.gas_model.specs.declared.rows.ArcState.{ArcState}
-use Rattle.gas_model.specs.declared.rows.ArcState.TheVariants.{Opened, Shut, Active, Bypass}
+use Rattle.gas_model.specs.Words.{state_named}
 use Rattle.gas_model.specs.declared.rows.Group.{Group}
 use Rattle.gas_model.specs.declared.rows.Setting.{Setting}
 use Rattle.gas_model.specs.Rows.{Network}
@@ -74,15 +74,6 @@ whole_within k within n = option_map_or (λ z. if within z then Ok z else Err (f
 -- a value that is such a number
 abbrev pub number_at : Key → (ℤ → Bool) → Option Data → Result ℤ SettingFault
 number_at k within d = option_map_or (whole_within k within) (option_and_then as_number d) (Err (fault.NotSetting k))
-
--- the state that a word names
-abbrev pub state_named : List ℕ → Option ArcState
-state_named word =
-    if bytes_eq word (codes "open") then Some Opened
-    else if bytes_eq word (codes "closed") then Some Shut
-    else if bytes_eq word (codes "active") then Some Active
-    else if bytes_eq word (codes "bypass") then Some Bypass
-    else None
 
 -- the state, where it is one of the kind
 abbrev pub of_kind : ArcKind → ArcState → Option ArcState

@@ -4,21 +4,14 @@ use Rattle.std.specs.Option.{option_map_or}
 use Rattle.gas_model.specs.declared.rows.NodeRow.{NodeRow}
 use Rattle.gas_model.specs.declared.rows.ArcRow.{ArcRow}
 use Rattle.gas_model.specs.declared.rows.ArcState.{ArcState}
-use Rattle.gas_model.specs.declared.rows.ArcState.TheVariants.{Opened, Shut, Active, Bypass}
 use Rattle.gas_model.specs.declared.rows.Group.{Group}
 use Rattle.gas_model.specs.declared.rows.Setting.{Setting}
 use Rattle.gas_model.specs.Rows.{Network}
+use Rattle.gas_model.specs.Words.{state_word}
 use Rattle.serde_json.specs.Data.{Data, array, object, string, number, member, no_members}
 use Rattle.serde_json.specs.Find.{of_integer}
 use Rattle.serde_json.specs.View.{items_of}
 use Rattle.serde_json.specs.Written.{compact_text}
-
--- the word of a state
-abbrev pub state_word : ArcState → List ℕ
-state_word Opened = codes "open"
-state_word Shut = codes "closed"
-state_word Active = codes "active"
-state_word Bypass = codes "bypass"
 
 -- the id of the decision at this place in the group
 abbrev pub decision_id : Group → ℕ → List ℕ

@@ -2,11 +2,11 @@
 ghost use Rattle.std.specs.Prelude.{◌≡◌, ◌≤◌, length, position, option_map};
 ghost use Rattle.std.specs.Str.{bytes_eq};
 ghost use Rattle.serde_json.specs.View.{view};
-ghost use Rattle.setting_text.specs.Reading.{Gives, state_named, of_kind, state_at, arc_entry, decision_place, group_entry, node_entry};
+ghost use Rattle.setting_text.specs.Reading.{Gives, of_kind, state_at, arc_entry, decision_place, group_entry, node_entry};
 
 use crate::fault::{Key, SettingFault};
 use crate::values::{is_entry, number_at, text_at};
-use gas_model::{ArcKind, ArcRow, ArcState, Decision, Group, NodeRow, has_state};
+use gas_model::{ArcKind, ArcRow, ArcState, Decision, Group, NodeRow, has_state, state_named};
 use serde_json::Value;
 
 /// The greatest flow either way, in l/h.
@@ -20,23 +20,6 @@ const MAX_SQUARE: i64 = 10_000_000_000_000_000;
 pub(crate) struct ArcEntry {
     pub(crate) state: ArcState,
     pub(crate) flow: i64,
-}
-
-// The state that a word names.
-fn state_named(word: &str) -> Option<ArcState>
-    ensures { result ≡ state_named word.now }
-{
-    if word == "open" {
-        Some(ArcState::Opened)
-    } else if word == "closed" {
-        Some(ArcState::Shut)
-    } else if word == "active" {
-        Some(ArcState::Active)
-    } else if word == "bypass" {
-        Some(ArcState::Bypass)
-    } else {
-        None
-    }
 }
 
 fn of_kind(kind: &ArcKind, state: ArcState) -> Option<ArcState>

@@ -8,23 +8,11 @@ ghost use Rattle.gas_model.specs.Near.{SettingFits};
 ghost use Rattle.gas_model.specs.Rows.{IsProblem};
 ghost use Rattle.gas_model.specs.Within.{IsWithin};
 ghost use Rattle.setting_text.specs.Reading.{setting_of, AreOfKinds, StandsFor};
-ghost use Rattle.setting_text.specs.Writing.{state_word, decision_id, arc_data, group_data, node_data, arc_entries, entries, list, setting_data, setting_text};
+ghost use Rattle.setting_text.specs.Writing.{decision_id, arc_data, group_data, node_data, arc_entries, entries, list, setting_data, setting_text};
 
-use gas_model::{ArcRow, ArcState, Bytes, Group, NoMemory, NodeRow, Problem, Setting};
+use gas_model::{ArcRow, ArcState, Bytes, Group, NoMemory, NodeRow, Problem, Setting, state_word};
 use serde_json::{Map, Value};
 use std::alloc::Global;
-
-// The word of a state.
-fn state_word(state: ArcState) -> &'static str
-    ensures { result.now ≡ state_word state }
-{
-    match state {
-        ArcState::Opened => "open",
-        ArcState::Shut => "closed",
-        ArcState::Active => "active",
-        ArcState::Bypass => "bypass",
-    }
-}
 
 // A text as a JSON string.
 fn text_value(alloc: Global, text: &str) -> Result<Value, NoMemory>
@@ -158,17 +146,4 @@ pub fn write_setting(alloc: Global, p: &Problem, s: &Setting) -> Result<Bytes, N
 {
     let text = setting_value(alloc, p, s)?.to_string(alloc)?;
     line_of(alloc, text.as_str())
-}
-
-#[cfg(test)]
-mod tests {
-    use super::*;
-
-    #[test]
-    fn each_state_has_its_word(rt: HostRuntime) {
-        assert_eq!(rt; state_word(ArcState::Opened), "open");
-        assert_eq!(rt; state_word(ArcState::Shut), "closed");
-        assert_eq!(rt; state_word(ArcState::Active), "active");
-        assert_eq!(rt; state_word(ArcState::Bypass), "bypass");
-    }
 }

@@ -22,8 +22,10 @@ use Rattle.tree_cert.specs.declared.line.Rule.{Rule}
 use Rattle.tree_cert.specs.declared.line.Rule.TheVariants as rules
 use Rattle.tree_cert.specs.declared.fault.LineFault.{LineFault}
 use Rattle.tree_cert.specs.declared.fault.LineFault.TheVariants as fault
-use Rattle.tree_cert.specs.Spelling.{var_text, rule_text, state_text, end_text, fits_var}
-use Rattle.tree_cert.specs.Fields.{◌>>=◌, found, text_field, ended, position_field, number_field, var_at, var_field, all_rules, rule_at, rule_field, state_at, state_field, end_at, end_field}
+use Rattle.tree_cert.specs.Spelling.{var_text, rule_text, end_text, fits_var}
+use Rattle.gas_model.specs.Words.{state_word, state_named}
+use Rattle.gas_model.proofs.StateWords.{word_names, named_only}
+use Rattle.tree_cert.specs.Fields.{◌>>=◌, found, text_field, ended, position_field, number_field, var_at, var_field, all_rules, rule_at, rule_field, state_field, end_at, end_field}
 
 -- the words, each after one space
 abbrev pub spaced : List (List ℕ) → List ℕ
@@ -88,7 +90,7 @@ rule_is_word rules.Reach = fixed_word (codes "reach") refl refl (omega arith)
 rule_is_word rules.Along = fixed_word (codes "along") refl refl (omega arith)
 rule_is_word rules.Drop = fixed_word (codes "drop") refl refl (omega arith)
 
-pub state_is_word : (state : ArcState) → IsWord (state_text state)
+pub state_is_word : (state : ArcState) → IsWord (state_word state)
 state_is_word Opened = fixed_word (codes "open") refl refl (omega arith)
 state_is_word Shut = fixed_word (codes "closed") refl refl (omega arith)
 state_is_word Active = fixed_word (codes "active") refl refl (omega arith)
@@ -231,21 +233,15 @@ rule_field_takes bytes rule rest e =
     let t = by_takes rule_at bytes rule rest e in
     t.2 ∙ ap (λ (w : List ℕ). 32 ∷ (w ++ rest)) (found_text rule_text t.0 all_rules rule t.1)
 
-state_again : (state : ArcState) → state_at (state_text state) ≡ Some state
-state_again Opened = refl
-state_again Shut = refl
-state_again Active = refl
-state_again Bypass = refl
-
-pub state_field_again : (state : ArcState) (rest : List ℕ) → word_len rest ≡ 0 → state_field (32 ∷ (state_text state ++ rest)) ≡ Ok (state, rest)
+pub state_field_again : (state : ArcState) (rest : List ℕ) → word_len rest ≡ 0 → state_field (32 ∷ (state_word state ++ rest)) ≡ Ok (state, rest)
 unfolding state_field
-state_field_again state rest h = by_again state_at (state_text state) rest state (state_is_word state) (state_again state) h
+state_field_again state rest h = by_again state_named (state_word state) rest state (state_is_word state) (word_names state) h
 
-pub state_field_takes : (bytes : List ℕ) (state : ArcState) (rest : List ℕ) → state_field bytes ≡ Ok (state, rest) → bytes ≡ 32 ∷ (state_text state ++ rest)
+pub state_field_takes : (bytes : List ℕ) (state : ArcState) (rest : List ℕ) → state_field bytes ≡ Ok (state, rest) → bytes ≡ 32 ∷ (state_word state ++ rest)
 unfolding state_field
 state_field_takes bytes state rest e =
-    let t = by_takes state_at bytes state rest e in
-    t.2 ∙ ap (λ (w : List ℕ). 32 ∷ (w ++ rest)) (found_text state_text t.0 (Opened ∷ Shut ∷ Active ∷ Bypass ∷ []) state t.1)
+    let t = by_takes state_named bytes state rest e in
+    t.2 ∙ ap (λ (w : List ℕ). 32 ∷ (w ++ rest)) (named_only t.0 state t.1)
 
 end_again : (low : Bool) → end_at (end_text low) ≡ Some low
 end_again true = refl
@@ -329,7 +325,7 @@ rule_never bytes = by_never rule_at bytes
 
 pub state_never : (bytes : List ℕ) → NeverWide (state_field bytes)
 unfolding state_field
-state_never bytes = by_never state_at bytes
+state_never bytes = by_never state_named bytes
 
 pub end_never : (bytes : List ℕ) → NeverWide (end_field bytes)
 unfolding end_field

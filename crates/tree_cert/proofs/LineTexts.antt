@@ -21,7 +21,8 @@ use Rattle.tree_cert.specs.declared.line.Line.TheVariants as lines
 use Rattle.tree_cert.specs.declared.fault.LineFault.{LineFault}
 use Rattle.tree_cert.specs.declared.words.LineWord.{LineWord}
 use Rattle.tree_cert.specs.declared.words.LineWord.TheVariants as first
-use Rattle.tree_cert.specs.Spelling.{var_text, rule_text, state_text, end_text, first_word, other_words, closing_words, is_node_list, fits_var, fits_line, has_ordered_cut}
+use Rattle.tree_cert.specs.Spelling.{var_text, rule_text, end_text, first_word, other_words, closing_words, is_node_list, fits_var, fits_line, has_ordered_cut}
+use Rattle.gas_model.specs.Words.{state_word}
 use Rattle.tree_cert.specs.Fields.{◌>>=◌, found, text_field, ended, position_field, number_field, var_field, all_rules, rule_at, rule_field, state_field, end_field}
 use Rattle.tree_cert.specs.Reading.{step_of, step_at, empty_at, nodes_at, cut_at, rule_closing_at, after_close, closing_at, lone, of_position, halve_at, take_of, take_at, state_at, half_of, half_at, first_line, first_at, word_text, all_words, first_word_at, after_word, line_at}
 use Rattle.tree_cert.proofs.FieldTexts.{spaced, spaced_start, bound_ok, found_ok, found_text, fixed_word, rule_is_word, rule_again, made_where, NeverWide, found_never, bound_never, text_never, ended_never, position_never, number_never, var_never, rule_never, state_never, end_never, position_field_again, position_field_takes, number_field_again, number_field_takes, var_field_again, var_field_takes, rule_field_again, rule_field_takes, state_field_again, state_field_takes, end_field_again, end_field_takes, text_field_again, text_field_takes, ended_takes}
@@ -118,9 +119,9 @@ take_again : (k j : ℕ) → take_at (spaced (numeral k ∷ numeral j ∷ [])) �
 unfolding take_at
 take_again k j = rw (position_field_again k (spaced (numeral j ∷ [])) refl, position_field_again j [] refl) (ap Ok (made_take (fits_position k) (fits_position j) k j))
 
-state_again : (a : ℕ) (state : ArcState) → state_at (spaced (numeral a ∷ state_text state ∷ [])) ≡ Ok (fitted (lines.Head (State a state)))
+state_again : (a : ℕ) (state : ArcState) → state_at (spaced (numeral a ∷ state_word state ∷ [])) ≡ Ok (fitted (lines.Head (State a state)))
 unfolding state_at
-state_again a state = rw (position_field_again a (spaced (state_text state ∷ [])) refl, state_field_again state [] refl) (ap Ok (made_where (λ a. lines.Head (State a state)) (fits_position a) a))
+state_again a state = rw (position_field_again a (spaced (state_word state ∷ [])) refl, state_field_again state [] refl) (ap Ok (made_where (λ a. lines.Head (State a state)) (fits_position a) a))
 
 half_again : (x : Var) (low : Bool) (c : ℤ) → half_at (spaced (var_text x ∷ end_text low ∷ signed_numeral c ∷ [])) ≡ Ok (fitted (lines.Head (Half x low c)))
 unfolding half_at
@@ -155,7 +156,7 @@ line_again (lines.Group k) is = body_again first.Group (numeral k ∷ []) (fitte
 line_again (lines.Arc a) is = body_again first.Arc (numeral a ∷ []) (fitted (lines.Arc a)) refl refl (position_line_again lines.Arc a)
 line_again (lines.Halve x) is = body_again first.Halve (var_text x ∷ []) (fitted (lines.Halve x)) refl refl (halve_again x)
 line_again (lines.Head (Take k j)) is = body_again first.Take (numeral k ∷ numeral j ∷ []) (fitted (lines.Head (Take k j))) refl refl (take_again k j)
-line_again (lines.Head (State a state)) is = body_again first.State (numeral a ∷ state_text state ∷ []) (fitted (lines.Head (State a state))) refl refl (state_again a state)
+line_again (lines.Head (State a state)) is = body_again first.State (numeral a ∷ state_word state ∷ []) (fitted (lines.Head (State a state))) refl refl (state_again a state)
 line_again (lines.Head (Half x low c)) is = body_again first.Half (var_text x ∷ end_text low ∷ signed_numeral c ∷ []) (fitted (lines.Head (Half x low c))) refl refl (half_again x low c)
 line_again lines.End is = body_again first.End [] (Some lines.End) refl refl (lone_again lines.End)
 
@@ -324,7 +325,7 @@ state_takes bytes o e =
     record {
       line = lines.Head (State ta.0 state.0.0);
       first = refl;
-      others = two_words bytes (numeral ta.0) a.0.1 (state_text state.0.0) state.0.1 ta.1 (state_field_takes a.0.1 state.0.0 state.0.1 state.1) (ended_takes state.0.1 end.0 end.1);
+      others = two_words bytes (numeral ta.0) a.0.1 (state_word state.0.0) state.0.1 ta.1 (state_field_takes a.0.1 state.0.0 state.0.1 state.1) (ended_takes state.0.1 end.0 end.1);
       ordered = refl;
       read = sym (ok_is _ _ end.2) ∙ one_made (λ a. lines.Head (State a state.0.0)) fits_position a.0.0 ta.0 ta.2;
     }

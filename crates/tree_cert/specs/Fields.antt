@@ -3,7 +3,7 @@ use Rattle.std.specs.Prelude.{◌≡◌, ℕ, ◌==◌, Bool, true, false, List,
 use Rattle.std.specs.List.{find}
 use Rattle.std.specs.Str.{bytes_eq}
 use Rattle.gas_model.specs.declared.rows.ArcState.{ArcState}
-use Rattle.gas_model.specs.declared.rows.ArcState.TheVariants.{Opened, Shut, Active, Bypass}
+use Rattle.gas_model.specs.Words.{state_named}
 use Rattle.gas_model.specs.declared.rows.Var.{Var}
 use Rattle.gas_model.specs.declared.rows.Var.TheVariants.{Flow, Square}
 use Rattle.line_text.specs.Long.{position_at, long_at}
@@ -12,7 +12,7 @@ use Rattle.tree_cert.specs.declared.line.Rule.{Rule}
 use Rattle.tree_cert.specs.declared.line.Rule.TheVariants as rules
 use Rattle.tree_cert.specs.declared.fault.LineFault.{LineFault}
 use Rattle.tree_cert.specs.declared.fault.LineFault.TheVariants as fault
-use Rattle.tree_cert.specs.Spelling.{rule_text, state_text}
+use Rattle.tree_cert.specs.Spelling.{rule_text}
 
 infixl 10 ◌>>=◌
 abbrev pub ◌>>=◌ : {A B : Type 0} → Result A LineFault → (A → Result B LineFault) → Result B LineFault
@@ -77,9 +77,6 @@ all_rules =
 abbrev pub rule_at : List ℕ → Option Rule
 rule_at word = find (λ rule. bytes_eq word (rule_text rule)) all_rules
 
-abbrev pub state_at : List ℕ → Option ArcState
-state_at word = find (λ state. bytes_eq word (state_text state)) (Opened ∷ Shut ∷ Active ∷ Bypass ∷ [])
-
 -- whether it is the lower end
 abbrev pub end_at : List ℕ → Option Bool
 end_at word = if bytes_eq word (codes "lo") then Some true else if bytes_eq word (codes "hi") then Some false else None
@@ -93,7 +90,7 @@ rule_field bytes = do
 unfoldable pub state_field : List ℕ → Result (ArcState × List ℕ) LineFault
 state_field bytes = do
   word ← text_field bytes
-  state ← found (state_at word.0)
+  state ← found (state_named word.0)
   Ok (state, word.1)
 
 unfoldable pub end_field : List ℕ → Result (Bool × List ℕ) LineFault

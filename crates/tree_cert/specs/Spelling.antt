@@ -2,8 +2,7 @@
 use Rattle.std.specs.Prelude.{◌≡◌, ℕ, nat_lt, Bool, true, false, ◌&&◌, List, [], ◌∷◌, ◌++◌, map, codes}
 use Rattle.line_text.specs.Numerals.{numeral, signed_numeral}
 use Rattle.std.specs.List.{flat_map, list_all}
-use Rattle.gas_model.specs.declared.rows.ArcState.{ArcState}
-use Rattle.gas_model.specs.declared.rows.ArcState.TheVariants.{Opened, Shut, Active, Bypass}
+use Rattle.gas_model.specs.Words.{state_word}
 use Rattle.gas_model.specs.declared.rows.Var.{Var}
 use Rattle.gas_model.specs.declared.rows.Var.TheVariants.{Flow, Square}
 use Rattle.line_text.specs.Words.{joined}
@@ -36,12 +35,6 @@ rule_text rules.Sign = codes "sign"
 rule_text rules.Reach = codes "reach"
 rule_text rules.Along = codes "along"
 rule_text rules.Drop = codes "drop"
-
-abbrev pub state_text : ArcState → List ℕ
-state_text Opened = codes "open"
-state_text Shut = codes "closed"
-state_text Active = codes "active"
-state_text Bypass = codes "bypass"
 
 -- the lower end, or the upper one
 abbrev pub end_text : Bool → List ℕ
@@ -79,7 +72,7 @@ other_words (lines.Group k) = numeral k ∷ []
 other_words (lines.Arc a) = numeral a ∷ []
 other_words (lines.Halve x) = var_text x ∷ []
 other_words (lines.Head (Take k j)) = numeral k ∷ numeral j ∷ []
-other_words (lines.Head (State a state)) = numeral a ∷ state_text state ∷ []
+other_words (lines.Head (State a state)) = numeral a ∷ state_word state ∷ []
 other_words (lines.Head (Half x low c)) = var_text x ∷ end_text low ∷ signed_numeral c ∷ []
 other_words lines.End = []
 

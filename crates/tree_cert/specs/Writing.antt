@@ -6,7 +6,8 @@ use Rattle.gas_model.specs.declared.collections.NoMemory.{NoMemory}
 use Rattle.line_text.specs.Long.{fits_position, fits_long}
 use Rattle.tree_cert.specs.declared.writing.Field.{Field}
 use Rattle.tree_cert.specs.declared.writing.Field.TheVariants.{Position, Number, Variable, Named, InState, AtEnd}
-use Rattle.tree_cert.specs.Spelling.{var_text, rule_text, state_text, end_text, fits_var}
+use Rattle.tree_cert.specs.Spelling.{var_text, rule_text, end_text, fits_var}
+use Rattle.gas_model.specs.Words.{state_word}
 
 -- a front of the piece was added at the end
 abbrev pub AddsFront : (before after piece : List ℕ) → Type 0
@@ -22,7 +23,7 @@ field_text (Position n) = numeral n
 field_text (Number z) = signed_numeral z
 field_text (Variable x) = var_text x
 field_text (Named rule) = rule_text rule
-field_text (InState state) = state_text state
+field_text (InState state) = state_word state
 field_text (AtEnd low) = end_text low
 
 -- the fields, each after one space

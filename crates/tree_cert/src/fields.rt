@@ -4,8 +4,8 @@ ghost use Rattle.tree_cert.specs.Fields.{Gives, text_field, ended, position_fiel
 
 use crate::fault::LineFault;
 use crate::line::Rule;
-use crate::words::{end_at, rule_at, state_at};
-use gas_model::{ArcState, Var};
+use crate::words::{end_at, rule_at};
+use gas_model::{ArcState, Var, state_named};
 use line_text::{field_at, long_at, position_at};
 
 /// A field of text, and what comes after it.
@@ -96,7 +96,7 @@ pub fn state_field(bytes: &[u8]) -> Result<(ArcState, &[u8]), LineFault>
     ensures { Gives (λ x. (x.0, x.1.now)) result (state_field bytes.now) }
 {
     let (word, rest) = text_field(bytes)?;
-    let state = state_at(word).ok_or(LineFault::NotLine)?;
+    let state = state_named(word).ok_or(LineFault::NotLine)?;
     Ok((state, rest))
 }
 

@@ -1,11 +1,10 @@
 // The words of lines.
 ghost use Rattle.std.specs.Prelude.{◌≡◌};
-ghost use Rattle.tree_cert.specs.Fields.{rule_at, state_at, end_at};
+ghost use Rattle.tree_cert.specs.Fields.{rule_at, end_at};
 ghost use Rattle.tree_cert.specs.Reading.{word_text, first_word_at};
-ghost use Rattle.tree_cert.specs.Spelling.{rule_text, state_text, end_text};
+ghost use Rattle.tree_cert.specs.Spelling.{rule_text, end_text};
 
 use crate::line::Rule;
-use gas_model::ArcState;
 
 /// The word that a line begins with.
 #[derive(Clone, Copy, Debug, PartialEq, Eq)]
@@ -68,35 +67,6 @@ pub fn rule_at(word: &str) -> Option<Rule>
     ensures { result ≡ rule_at word.now }
 {
     RULES.iter().copied().find(|rule| word == rule_word(*rule))
-}
-
-/// The word of a state.
-pub fn state_word(state: ArcState) -> &'static str
-    ensures { result.now ≡ state_text state }
-{
-    match state {
-        ArcState::Opened => "open",
-        ArcState::Shut => "closed",
-        ArcState::Active => "active",
-        ArcState::Bypass => "bypass",
-    }
-}
-
-const STATES: [ArcState; 4] = [
-    ArcState::Opened,
-    ArcState::Shut,
-    ArcState::Active,
-    ArcState::Bypass,
-];
-
-/// The state of this word.
-pub fn state_at(word: &str) -> Option<ArcState>
-    ensures { result ≡ state_at word.now }
-{
-    STATES
-        .iter()
-        .copied()
-        .find(|state| word == state_word(*state))
 }
 
 /// The word of the lower end, or of the upper one.

@@ -9,8 +9,8 @@ ghost use Rattle.tree_cert.specs.Spelling.{var_text, fits_var, is_node_list, has
 ghost use Rattle.tree_cert.specs.Writing.{Adds, AddsFront, field_text, fields_text, fits_field};
 
 use crate::line::{Closing, Head, Line, Rule, Step};
-use crate::words::{end_word, rule_word, state_word};
-use gas_model::{ArcState, Bytes, NoMemory, Var};
+use crate::words::{end_word, rule_word};
+use gas_model::{ArcState, Bytes, NoMemory, Var, state_word};
 use line_text::{put_long, put_position};
 use std::alloc::Global;
 
