@@ -1,5 +1,6 @@
 pub mod Decimals
 pub mod Numbers
+pub mod Sizes
 pub mod Places
 pub mod Cuts
 pub mod Fields

@@ -1,6 +1,6 @@
 -- Positions of 32 bits and numbers of 128 bits: what a text reads as, and which text reads as them.
-use Rattle.std.proofs.Common.{◌≡◌, ◌≢◌, ◌<◌, ◌≤◌, ◌^◌, ℕ, suc, zero, List, [], ◌∷◌, length, get_or, Bool, true, false, cond, Option, Some, None, Result, Ok, Err, ℤ, pos, negsuc, refl, sym, ap, subst, ◌∙◌, arith}
-use Rattle.std.specs.Prelude.{option_map, option_and_then, ◌==◌, FitsSigned}
+use Rattle.std.proofs.Common.{◌≡◌, ◌≢◌, ◌<◌, ◌≤◌, ◌^◌, ◌-◌, ◌&&◌, ℕ, suc, min, zero, List, [], ◌∷◌, length, get_or, Bool, true, false, cond, Option, Some, None, Result, Ok, Err, ℤ, pos, negsuc, refl, sym, ap, subst, ◌∙◌, arith}
+use Rattle.std.specs.Prelude.{option_map, option_and_then, ◌==◌, FitsSigned, int_lt}
 use Rattle.std.specs.List.{list_all}
 use Rattle.std.specs.Result.{OkIff, result_ok}
 use Rattle.std.specs.Char.{is_ascii_digit}
@@ -10,6 +10,7 @@ use Rattle.std.proofs.lemmas.Bool.{eqb-true, eqb-false}
 use Rattle.std.proofs.lemmas.Bool.Decides.{nat_tests}
 use Rattle.std.proofs.lemmas.Int.{ints}
 use Rattle.std.proofs.lemmas.Str.Parse.{parse_signed_digits, parse_signed_minus}
+use lib.Signed.{mag}
 use Rattle.line_text.specs.Numerals.{is_numeral, natural, minus, integer, number_at}
 use Rattle.line_text.specs.Long.{fits_long, fitting, long_at}
 use Rattle.line_text.proofs.Decimals.{own}
@@ -109,3 +110,29 @@ long_read word y r e h = let z = some_integer word y e in ap Some (parsed word z
 
 pub long_gone : (word : List ℕ) → number_at word ≡ None → None ≡ long_at word
 long_gone word e = ap (option_map (fitting fits_long)) (sym (none_integer word e))
+
+-- ---- a number that its nearest of 64 bits tells
+
+-- the nearest of a number is itself where it is none of the two that others count as
+inner : (n z : ℤ) → mag n < 2 ^ 63 - 1 → saturate_signed w64 z ≡ n → z ≡ n
+inner (pos m) (pos k) small e = let size : min k (2 ^ 63 - 1) ≡ m = ap mag e in ap (λ n. pos n) (omega (arith, size, small))
+inner (negsuc m) (negsuc k) small e = let size : min k (2 ^ 63 - 1) ≡ m = ap mag e in ap (λ n. negsuc n) (omega (arith, size, small))
+inner (pos m) (negsuc k) small e = absurd cc
+inner (negsuc m) (pos k) small e = absurd cc
+
+pub inner_fits : (n : ℤ) → mag n < 2 ^ 63 - 1 → FitsSigned w128 n
+inner_fits (pos m) small = grind (arith, ints)
+inner_fits (negsuc m) small = grind (arith, ints)
+
+-- a number between the least and the greatest of 64 bits
+pub is_small : (n : ℤ) → (int_lt (negsuc (2 ^ 63 - 1)) n && int_lt n (pos (2 ^ 63 - 1))) ≡ true → mag n < 2 ^ 63 - 1
+is_small (pos m) e = grind (arith, ints, nat_tests)
+is_small (negsuc m) e = grind (arith, ints, nat_tests)
+
+pub long_inner : (word : List ℕ) (n : ℤ) → mag n < 2 ^ 63 - 1 → number_at word ≡ Some n → Some (Some n) ≡ long_at word
+long_inner word n small e =
+    let z = mapped (saturate_signed w64) (integer word) n e in
+    let same = inner n z.0 small z.2 in
+    let fits = fits_from n (inner_fits n small) in
+    let fitted_is : fitting fits_long n ≡ Some n = rw fits refl in
+    sym (ap (option_map (fitting fits_long)) (z.1 ∙ ap (λ z. Some z) same) ∙ ap (λ o. Some o) fitted_is)

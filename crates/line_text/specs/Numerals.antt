@@ -19,6 +19,10 @@ signed_numeral (negsuc n) = 45 ∷ numeral (suc n)
 abbrev pub is_numeral : List ℕ → Bool
 is_numeral ds = list_all is_ascii_digit ds && not (length ds == 0) && (not (slice_index ds 0 == 48) || (length ds == 1))
 
+-- at least one byte, of which the first is no needless zero
+abbrev pub begins_well : List ℕ → Bool
+begins_well ds = not (length ds == 0) && (not (slice_index ds 0 == 48) || (length ds == 1))
+
 -- the number that digits are, of any size
 abbrev pub natural : List ℕ → Option ℕ
 natural ds = if is_numeral ds then Some (digits_value 10 ds) else None
@@ -39,6 +43,10 @@ up_to_max n = saturate_signed w64 (pos n)
 
 abbrev pub below_zero : ℕ → Option ℤ
 below_zero n = option_map (saturate_signed w64) (minus n)
+
+-- the number that digits write, whatever stands in front, up to the greatest of 64 bits
+abbrev pub size_of : List ℕ → Option ℕ
+size_of ds = if list_all is_ascii_digit ds then Some (min (digits_value 10 ds) (2 ^ 64 - 1)) else None
 
 -- the number that digits are; one past 64 bits counts as the greatest of 64 bits
 abbrev pub size_at : List ℕ → Option ℕ

@@ -1,6 +1,6 @@
 // Positions of 32 bits, and numbers of 128 bits, as text.
-ghost use Rattle.std.specs.Prelude.{◌≡◌, ◌++◌, ℕ, ℤ, Some, IfSome, OnOk, OnErr};
-ghost use Rattle.line_text.specs.Numerals.{numeral, signed_numeral};
+ghost use Rattle.std.specs.Prelude.{◌≡◌, ◌++◌, ◌-◌, ◌^◌, ◌&&◌, int_lt, ℕ, ℤ, pos, negsuc, Some, IfSome, OnOk, OnErr};
+ghost use Rattle.line_text.specs.Numerals.{numeral, signed_numeral, number_at};
 ghost use Rattle.line_text.specs.Long.{fits_position, fits_long, fitting, position_at, long_at};
 
 use crate::numerals::{number_at, size_at};
@@ -20,6 +20,25 @@ pub fn position_at(word: &str) -> Option<Option<u32>>
     Some(u32::try_from(size).ok())
 }
 
+/// Whether a number is neither the least nor the greatest of 64 bits.
+fn is_inner(near: i64) -> bool
+    ensures { result ≡ int_lt (negsuc (2 ^ 63 - 1)) near && int_lt near (pos (2 ^ 63 - 1)) }
+{
+    i64::MIN < near && near < i64::MAX
+}
+
+/// The number of a word of which the nearest number of 64 bits is known.
+fn long_of(near: i64, word: &str) -> Option<i128>
+    requires { number_at word.now ≡ Some near }
+    ensures { Some result ≡ long_at word.now }
+{
+    if is_inner(near) {
+        Some(i128::from(near))
+    } else {
+        word.parse::<i128>().ok()
+    }
+}
+
 /// The number that a word is: `0`, or digits with no zero in front, after a `-` where it is below 0. A word of another
 /// form, as `-0`, `00` or `+1`, is none. A number past 128 bits is none within.
 pub fn long_at(word: &str) -> Option<Option<i128>>
@@ -30,7 +49,7 @@ pub fn long_at(word: &str) -> Option<Option<i128>>
     ensures read { IfSome result (λ o. (z : ℤ) × (word.now ≡ signed_numeral z) × (o ≡ fitting fits_long z)) }
 {
     match number_at(word) {
-        Some(_) => Some(word.parse::<i128>().ok()),
+        Some(near) => Some(long_of(near, word)),
         None => None,
     }
 }

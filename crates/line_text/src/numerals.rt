@@ -4,35 +4,32 @@ ghost use Rattle.std.specs.Int.{w64, saturate_signed};
 ghost use Rattle.std.specs.List.{list_all};
 ghost use Rattle.std.specs.Char.{is_ascii_digit};
 ghost use Rattle.std.specs.Str.Parse.{digits_value};
-ghost use Rattle.line_text.specs.Numerals.{numeral, signed_numeral, is_numeral, up_to_max, below_zero, size_at, number_at};
+ghost use Rattle.line_text.specs.Numerals.{numeral, signed_numeral, begins_well, size_of, up_to_max, below_zero, size_at, number_at};
 
 use gas_model::{Bytes, NoMemory};
 use itoa::Buffer;
 
-fn are_digits(bytes: &[u8]) -> bool
-    ensures { result ≡ list_all is_ascii_digit bytes.now }
+/// At least one byte, of which the first is no needless zero.
+fn begins_well(digits: &[u8]) -> bool
+    ensures { result ≡ begins_well digits.now }
 {
-    bytes.iter().all(|b| b.is_ascii_digit())
+    !digits.is_empty() && (digits[0] != b'0' || digits.len() == 1)
 }
 
-/// Digits with no needless zero in front.
-fn is_numeral(digits: &str) -> bool
-    ensures { result ≡ is_numeral digits.now }
+/// The size that digits write, up to the greatest of 64 bits; none where another byte stands among them.
+fn size_of(digits: &[u8]) -> Option<u64>
+    ensures { result ≡ size_of digits.now }
 {
-    let bytes = digits.as_bytes();
-    are_digits(bytes) && !bytes.is_empty() && (bytes[0] != b'0' || bytes.len() == 1)
-}
-
-/// The size that digits write, up to the greatest of 64 bits.
-fn size_of(digits: &str) -> u64
-    requires digits { list_all is_ascii_digit digits.now ≡ true }
-    requires some { 0 < length digits.now }
-    ensures { result ≡ min (digits_value 10 digits.now) (2 ^ 64 - 1) }
-{
-    match digits.parse::<u64>() {
-        Ok(n) => n,
-        Err(_) => u64::MAX,
+    let mut size: u64 = 0;
+    for digit in digits {
+        if !digit.is_ascii_digit() {
+            return None;
+        }
+        size = size
+            .saturating_mul(10)
+            .saturating_add(u64::from(*digit - b'0'));
     }
+    Some(size)
 }
 
 /// A size as a number.
@@ -70,8 +67,9 @@ pub fn size_at(word: &str) -> Option<u64>
     // What is read was spelled so.
     ensures read { IfSome result (λ k. (n : ℕ) × (word.now ≡ numeral n) × (k ≡ min n (2 ^ 64 - 1))) }
 {
-    if is_numeral(word) {
-        Some(size_of(word))
+    let digits = word.as_bytes();
+    if begins_well(digits) {
+        size_of(digits)
     } else {
         None
     }

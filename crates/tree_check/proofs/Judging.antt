@@ -6,14 +6,15 @@ use Rattle.gas_model.specs.Points.{IsInfeasible}
 use Rattle.gas_model.specs.Within.{IsWithin}
 use Rattle.tree_cert.specs.declared.fault.FaultKind.{FaultKind}
 use Rattle.tree_cert.specs.declared.fault.FaultKind.TheVariants.{WrongEnd}
+use Rattle.tree_cert.specs.declared.fault.FaultKind.TheVariants as kinds
 use Rattle.tree_cert.specs.declared.fault.LineFault.{LineFault}
 use Rattle.tree_cert.specs.declared.line.Line.{Line}
 use Rattle.tree_cert.specs.declared.line.Line.TheVariants as lines
 use Rattle.tree_cert.specs.TreeRules.{TreeRules}
 use Rattle.tree_cert.specs.Place.{Place, Start, Ended, read_end}
 use Rattle.tree_cert.specs.Reading.{line_of}
-use Rattle.tree_cert.specs.Texts.{Read, told, next, pieces, lines_in, Finding, Refutes, Fails, IsFinding}
-use Rattle.tree_cert.proofs.Judged.{or_else, read_open, open_at, passes_with, judge_next, judge, judge_all, judged_is_finding}
+use Rattle.tree_cert.specs.Texts.{Read, told, next, pieces, lines_in, Finding, Refutes, Partial, Fails, IsFinding}
+use Rattle.tree_cert.proofs.Judged.{or_else, read_open, open_at, passes_with, judge_next, judge, judge_all, judged_is_finding, finding_is_judged}
 use Rattle.tree_cert.proofs.TextLines.{lines_are_read}
 use Rattle.tree_rules.specs.Branches.{Wait, rules_of}
 use Rattle.tree_rules.proofs.TreeSound.{texts_refute}
@@ -27,7 +28,8 @@ use Rattle.tree_check.specs.declared.reader.Stop.TheVariants as stops
 use Rattle.tree_check.specs.declared.verdict.Verdict.{Verdict}
 use Rattle.tree_check.specs.declared.verdict.Verdict.TheVariants as verdict
 use Rattle.tree_check.specs.declared.verdict.TreeFault.{TreeFault}
-use Rattle.tree_check.specs.Verdicts.{finding_of, stopped, passing, or_open, Answers}
+use Rattle.tree_check.specs.declared.verdict.TreeFault.TheVariants as faults
+use Rattle.tree_check.specs.Verdicts.{finding_of, answer_to, stopped, passing, or_open, Answers, IsAnswered}
 
 pub lines_cut : (bytes piece rest : List ℕ) → pieces bytes ≡ piece ∷ pieces rest → lines_in bytes ≡ told (line_of piece) ∷ lines_in rest
 lines_cut bytes piece rest e = ap (map (λ x. told (line_of x))) e
@@ -89,6 +91,21 @@ answered p text result f e j =
 pub answered_stop : (p : Network) (text : List ℕ) (t : TreeFault) (stop : Stop) (n : ℕ) → finding_of (Err t) ≡ stopped stop n → ((fault : FaultKind) → stop ≡ stops.Offends fault → judge_all (rules_of p) (lines_in text) ≡ Fails n fault) → Answers p text (Err t)
 answered_stop p text t stops.NoMemory n e j = subst (λ (o : Option Finding). IfSome o (IsFinding (rules_of p) text)) (sym e) tt
 answered_stop p text t (stops.Offends fault) n e j = answered p text (Err t) (Fails n fault) e (j fault refl)
+
+-- what a text is found to be is one thing alone
+same_finding : (p : Network) (text : List ℕ) (f h : Finding) → IsFinding (rules_of p) text f → IsFinding (rules_of p) text h → f ≡ h
+same_finding p text f h a b = sym (finding_is_judged (rules_of p) lines_are_read text f a) ∙ finding_is_judged (rules_of p) lines_are_read text h b
+
+-- so it is what the answer says
+pub each_finding : (p : Network) (text : List ℕ) (result : Result Verdict TreeFault) → Answers p text result → IsAnswered p text result
+each_finding p text (Ok verdict.Refutes) a f is = ap answer_to (same_finding p text Refutes f a is)
+each_finding p text (Ok (verdict.Partial n)) a f is = ap answer_to (same_finding p text (Partial n) f a is)
+each_finding p text (Err (faults.NotTree n)) a f is = ap answer_to (same_finding p text (Fails n kinds.NotTree) f a is)
+each_finding p text (Err (faults.WideNumber n)) a f is = ap answer_to (same_finding p text (Fails n kinds.WideNumber) f a is)
+each_finding p text (Err (faults.BadStep n)) a f is = ap answer_to (same_finding p text (Fails n kinds.BadStep) f a is)
+each_finding p text (Err (faults.WrongBranch n)) a f is = ap answer_to (same_finding p text (Fails n kinds.WrongBranch) f a is)
+each_finding p text (Err (faults.WrongEnd n)) a f is = ap answer_to (same_finding p text (Fails n kinds.WrongEnd) f a is)
+each_finding p text (Err faults.NoMemory) a f is = tt
 
 pub refuted : (p : Network) (text : List ℕ) (result : Result Verdict TreeFault) → IsWithin p → Answers p text result → result ≡ Ok verdict.Refutes → IsInfeasible p
 refuted p text result w a e =

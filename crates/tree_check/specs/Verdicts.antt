@@ -1,6 +1,5 @@
 -- What a checker answers of a text.
-use Rattle.std.specs.Prelude.{ℕ, List, Option, Some, None, Result, Ok, Err}
-use Rattle.std.specs.Prelude.{IfSome}
+use Rattle.std.specs.Prelude.{◌≡◌, ℕ, List, Option, Some, None, IfSome, Result, Ok, Err}
 use Rattle.gas_model.specs.Rows.{Network}
 use Rattle.tree_cert.specs.declared.fault.FaultKind.TheVariants as kind
 use Rattle.tree_cert.specs.Texts.{Finding, Refutes, Partial, Fails, IsFinding}
@@ -25,6 +24,21 @@ finding_of (Err (fault.WrongBranch line)) = Some (Fails line kind.WrongBranch)
 finding_of (Err (fault.WrongEnd line)) = Some (Fails line kind.WrongEnd)
 finding_of (Err fault.NoMemory) = None
 
+-- the answer that says so
+abbrev pub answer_to : Finding → Result Verdict TreeFault
+answer_to Refutes = Ok verdict.Refutes
+answer_to (Partial line) = Ok (verdict.Partial line)
+answer_to (Fails line kind.NotTree) = Err (fault.NotTree line)
+answer_to (Fails line kind.WideNumber) = Err (fault.WideNumber line)
+answer_to (Fails line kind.BadStep) = Err (fault.BadStep line)
+answer_to (Fails line kind.WrongBranch) = Err (fault.WrongBranch line)
+answer_to (Fails line kind.WrongEnd) = Err (fault.WrongEnd line)
+
+-- the answer says so, unless memory ran out
+abbrev pub IsAnswerTo : Finding → Result Verdict TreeFault → Type 0
+IsAnswerTo f (Err fault.NoMemory) = Unit {0}
+IsAnswerTo f result = result ≡ answer_to f
+
 -- what a stop at a line says
 abbrev pub stopped : Stop → ℕ → Option Finding
 stopped stops.NoMemory line = None
@@ -45,3 +59,7 @@ or_open None number line = None
 -- nothing.
 abbrev pub Answers : Network → List ℕ → Result Verdict TreeFault → Type 0
 Answers p text result = IfSome (finding_of result) (IsFinding (rules_of p) text)
+
+-- whatever the text is found to be is answered
+abbrev pub IsAnswered : Network → List ℕ → Result Verdict TreeFault → Type 0
+IsAnswered p text result = (f : Finding) → IsFinding (rules_of p) text f → IsAnswerTo f result

@@ -8,7 +8,7 @@ ghost use Rattle.tree_cert.specs.Reading.{line_of};
 ghost use Rattle.tree_cert.specs.Texts.{Fails, told, next};
 ghost use Rattle.tree_rules.specs.Branches.{rules_of};
 ghost use Rattle.tree_check.specs.Reading.{place_of, IsReaderOf, SaysLine, SaysFirst};
-ghost use Rattle.tree_check.specs.Verdicts.{finding_of, stopped, passing, or_open, Answers};
+ghost use Rattle.tree_check.specs.Verdicts.{finding_of, stopped, passing, or_open, Answers, IsAnswered};
 
 use crate::open_box::OpenBox;
 use crate::reader::{Mark, Reader, Stop, read};
@@ -100,6 +100,8 @@ fn read_next(alloc: Global, p: &Problem, r: &mut Reader, piece: &[u8]) -> Result
 pub fn check_tree(alloc: Global, p: &Problem, text: &[u8]) -> Result<Verdict, TreeFault>
     // The answer is what the text is found to be, which is one thing alone; a want of memory says nothing.
     ensures exact { Answers p.now text.now result }
+    // And what the text is found to be is the answer, unless memory runs out.
+    ensures each { IsAnswered p.now text.now result }
     // What is refuted has no listed decisions and states, and no flows and squared pressures over any denominator.
     ensures sound { result ≡ Ok Verdict.Refutes → IsInfeasible p.now }
 {

@@ -29,7 +29,7 @@ use Rattle.tree_cert.specs.declared.line.Closing.TheVariants.{Empty, Cut, At}
 use Rattle.tree_rules.specs.ArcRules.{ArcVar, OfFlow, OfFrom, OfTo, arc_step, arc_closing}
 use Rattle.tree_rules.specs.NodeRules.{leaving_step, entering_step, balance_closing, are_cut_nodes, crosses, all_arcs, is_unbalanced}
 use Rattle.tree_rules.specs.Rules.{PartBox, flow_lo, flow_hi, arc_ends, arc_var, fixed_form, form_step, row_step, law_step, flow_step, node_step, balance_step, rule_holds, is_allowed, step_holds, stepped, is_shut, cuts, row_closing, closing_at, closing_holds}
-use Rattle.tree_rules.specs.Theorems.{IsBoxOf, IsIn, StepsKeepPoints, ClosingsRefute}
+use Rattle.tree_rules.specs.Theorems.{IsBoxOf, IsIn, RulesKeepPoints, StepsKeepPoints, ClosingsRefute}
 use Rattle.tree_rules.proofs.UnitSound.{IsForm, IsDrag, IsRatio, value_of, both, eq_says}
 use Rattle.tree_rules.proofs.ArcSound.{ArcWithin, Keeps, arc_step_keeps, arc_closing_none}
 use Rattle.tree_rules.proofs.NodeSound.{Flows, leaving_keeps, entering_keeps, balance_closed}
@@ -250,20 +250,31 @@ end_moved p b picks states x v low C s k =
     changed b.scale x b.bounds v (with_end low C (ends_of b.bounds v)) s.is_in.inside
     (kept_end b.scale x.d (numerator x v) low C (ends_of b.bounds v) (s.is_in.inside v (in_box p b.bounds v s.box.fits k.is_var)) k.keeps)
 
+-- the condition of a rule alone
+pub rule_keeps : (p : Network) (b : PartBox) (s : Step) (picks : List ℕ) (states : List ArcState) (x : Point) → IsTrue (rule_holds p b s.rule s.place s.var s.low s.value) → Stands p b picks states x
+    → IsTrue (is_var p s.var) × Stands p (stepped b s) picks states x
+rule_keeps p b s picks states x t h =
+    let kept = rule_kept p b picks states x s.rule s.place s.var s.low s.value h t in (
+      kept.is_var,
+      record {
+        within = h.within;
+        box = record { scale = h.box.scale; fits = still_fits p b.bounds s.var (with_end s.low s.value (ends_of b.bounds s.var)) h.box.fits };
+        is_in = record {
+          listed = h.is_in.listed;
+          agrees = h.is_in.agrees;
+          inside = end_moved p b picks states x s.var s.low s.value h kept;
+          meets = h.is_in.meets;
+        };
+      },
+    )
+
 pub step_keeps : (p : Network) (b : PartBox) (s : Step) (picks : List ℕ) (states : List ArcState) (x : Point) → IsTrue (step_holds p b s) → Stands p b picks states x → Stands p (stepped b s) picks states x
 step_keeps p b s picks states x t h =
     let a = both (is_var p s.var && is_allowed b.bounds s.rule s.var s.low s.value) (rule_holds p b s.rule s.place s.var s.low s.value) t in
-    let kept = rule_kept p b picks states x s.rule s.place s.var s.low s.value h a.1 in
-    record {
-      within = h.within;
-      box = record { scale = h.box.scale; fits = still_fits p b.bounds s.var (with_end s.low s.value (ends_of b.bounds s.var)) h.box.fits };
-      is_in = record {
-        listed = h.is_in.listed;
-        agrees = h.is_in.agrees;
-        inside = end_moved p b picks states x s.var s.low s.value h kept;
-        meets = h.is_in.meets;
-      };
-    }
+    (rule_keeps p b s picks states x a.1 h).1
+
+pub rules_keep_points : RulesKeepPoints
+rules_keep_points p b s picks states x w o t h = let k = rule_keeps p b s picks states x t (record { within = w; box = o; is_in = h }) in (k.0, k.1.is_in)
 
 pub steps_keep_points : StepsKeepPoints
 steps_keep_points p b s picks states x w o t h = (step_keeps p b s picks states x t (record { within = w; box = o; is_in = h })).is_in

@@ -140,14 +140,27 @@ keeps_sign Reach C = int_le (pos 0) C
 keeps_sign Drop C = int_le (pos 0) C
 keeps_sign rule C = true
 
--- no flow and no squares between the ends meet the law
+-- No flow and no squares between the ends meet the law. A closing with two causes has a test for each.
+
+-- the squares lie too near for the least flow, or too far apart for the greatest
+abbrev pub drops_too_little : Drag → ℤ → ArcEnds → Bool
+drops_too_little law K e = int_lt (law.den *ℤ K *ℤ (e.u.hi -ℤ e.v.lo)) (drop_low law e.q.lo)
+
+abbrev pub drops_too_much : Drag → ℤ → ArcEnds → Bool
+drops_too_much law K e = int_lt (drop_high law e.q.hi) (law.den *ℤ K *ℤ (e.u.lo -ℤ e.v.hi))
 
 abbrev pub pipe_closing : Drag → ℤ → ArcEnds → Bool
-pipe_closing law K e =
-    int_lt (law.den *ℤ K *ℤ (e.u.hi -ℤ e.v.lo)) (drop_low law e.q.lo) || int_lt (drop_high law e.q.hi) (law.den *ℤ K *ℤ (e.u.lo -ℤ e.v.hi))
+pipe_closing law K e = drops_too_little law K e || drops_too_much law K e
+
+-- the pressure falls by less than red_min everywhere, or by more than red_max
+abbrev pub falls_too_little : (red_min : ℤ) → ℤ → ArcEnds → Bool
+falls_too_little red_min K e = not (at_least K e.u.hi e.v.lo red_min)
+
+abbrev pub falls_too_much : (red_max : ℤ) → ℤ → ArcEnds → Bool
+falls_too_much red_max K e = not (at_most K e.u.lo e.v.hi red_max)
 
 abbrev pub fall_closing : (red_min red_max : ℤ) → ℤ → ArcEnds → Bool
-fall_closing red_min red_max K e = not (at_least K e.u.hi e.v.lo red_min) || not (at_most K e.u.lo e.v.hi red_max)
+fall_closing red_min red_max K e = falls_too_little red_min K e || falls_too_much red_max K e
 
 abbrev pub rise_closing : (rise_max : ℤ) → ℤ → ArcEnds → Bool
 rise_closing rise_max K e = not (at_most K e.v.lo e.u.hi rise_max)
@@ -155,12 +168,25 @@ rise_closing rise_max K e = not (at_most K e.v.lo e.u.hi rise_max)
 abbrev pub ratio_closing : (num den : ℤ) → ArcEnds → Bool
 ratio_closing num den e = int_lt (square num *ℤ e.u.hi) (square den *ℤ e.v.lo)
 
+-- the pressure falls by more than the greatest loss from the arc's `from` to its `to`, or back
+abbrev pub is_beyond_reach : (high_loss : ℤ) → ℤ → ArcEnds → Bool
+is_beyond_reach high_loss K e = not (at_most K e.u.lo e.v.hi high_loss)
+
+abbrev pub is_beyond_reach_back : (high_loss : ℤ) → ℤ → ArcEnds → Bool
+is_beyond_reach_back high_loss K e = not (at_most K e.v.lo e.u.hi high_loss)
+
 abbrev pub reach_closing : (high_loss : ℤ) → ℤ → ArcEnds → Bool
-reach_closing high_loss K e = not (at_most K e.u.lo e.v.hi high_loss) || not (at_most K e.v.lo e.u.hi high_loss)
+reach_closing high_loss K e = is_beyond_reach high_loss K e || is_beyond_reach_back high_loss K e
+
+-- the flow goes forward, or back, and the pressure falls along it by less than the least loss
+abbrev pub loses_too_little : (low_loss : ℤ) → ℤ → ArcEnds → Bool
+loses_too_little low_loss K e = int_le (pos 1) e.q.lo && not (at_least K e.u.hi e.v.lo low_loss)
+
+abbrev pub loses_too_little_back : (low_loss : ℤ) → ℤ → ArcEnds → Bool
+loses_too_little_back low_loss K e = int_le e.q.hi (negsuc 0) && not (at_least K e.v.hi e.u.lo low_loss)
 
 abbrev pub drop_closing : (low_loss : ℤ) → ℤ → ArcEnds → Bool
-drop_closing low_loss K e =
-    (int_le (pos 1) e.q.lo && not (at_least K e.u.hi e.v.lo low_loss)) || (int_le e.q.hi (negsuc 0) && not (at_least K e.v.hi e.u.lo low_loss))
+drop_closing low_loss K e = loses_too_little low_loss K e || loses_too_little_back low_loss K e
 
 -- The law of an arc holds nowhere in the box, by a rule that closes boxes. No other rule does.
 abbrev pub arc_closing : Rule → LawForm → ℤ → ArcEnds → Bool

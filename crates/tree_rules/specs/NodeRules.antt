@@ -28,10 +28,16 @@ abbrev pub entering_step : NodeRow → ℤ → (ql qh : ℕ → ℤ) → ℕ →
 entering_step node K ql qh n arcs a true C = int_le C (sum_out ql n arcs -ℤ sum_other_in a qh n arcs -ℤ K *ℤ node.b_max)
 entering_step node K ql qh n arcs a false C = int_le (sum_out qh n arcs -ℤ sum_other_in a ql n arcs -ℤ K *ℤ node.b_min) C
 
--- no flows between the ends balance the node n
+-- No flows between the ends balance the node n: even the least flows take away more than it can bring in, or even the
+-- greatest take away less.
+abbrev pub takes_too_much : NodeRow → ℤ → (ql qh : ℕ → ℤ) → ℕ → List ArcRow → Bool
+takes_too_much node K ql qh n arcs = int_lt (K *ℤ node.b_max) (sum_out ql n arcs -ℤ sum_in qh n arcs)
+
+abbrev pub takes_too_little : NodeRow → ℤ → (ql qh : ℕ → ℤ) → ℕ → List ArcRow → Bool
+takes_too_little node K ql qh n arcs = int_lt (sum_out qh n arcs -ℤ sum_in ql n arcs) (K *ℤ node.b_min)
+
 abbrev pub balance_closing : NodeRow → ℤ → (ql qh : ℕ → ℤ) → ℕ → List ArcRow → Bool
-balance_closing node K ql qh n arcs =
-    int_lt (K *ℤ node.b_max) (sum_out ql n arcs -ℤ sum_in qh n arcs) || int_lt (sum_out qh n arcs -ℤ sum_in ql n arcs) (K *ℤ node.b_min)
+balance_closing node K ql qh n arcs = takes_too_much node K ql qh n arcs || takes_too_little node K ql qh n arcs
 
 -- the numbers ascend strictly, and all are above n
 abbrev pub ascends_after : ℕ → List ℕ → Bool
@@ -67,6 +73,12 @@ least_supply nodes n = option_map_or (λ node. node.b_min) (slice_get nodes n) (
 abbrev pub greatest_supply : List NodeRow → ℕ → ℤ
 greatest_supply nodes n = option_map_or (λ node. node.b_max) (slice_get nodes n) (pos 0)
 
--- the nodes together bring in too much, or too little, to balance without other arcs
+-- The nodes can't balance together without other arcs: they bring in something at least, or want something at least.
+abbrev pub brings_too_much : List NodeRow → List ℕ → Bool
+brings_too_much nodes ns = int_lt (pos 0) (sum_nodes (least_supply nodes) ns)
+
+abbrev pub brings_too_little : List NodeRow → List ℕ → Bool
+brings_too_little nodes ns = int_lt (sum_nodes (greatest_supply nodes) ns) (pos 0)
+
 abbrev pub is_unbalanced : List NodeRow → List ℕ → Bool
-is_unbalanced nodes ns = int_lt (pos 0) (sum_nodes (least_supply nodes) ns) || int_lt (sum_nodes (greatest_supply nodes) ns) (pos 0)
+is_unbalanced nodes ns = brings_too_much nodes ns || brings_too_little nodes ns

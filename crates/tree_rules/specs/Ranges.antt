@@ -1,5 +1,6 @@
 -- The values that a step may give, whatever its condition says, and what a cut asks for.
 use Rattle.std.specs.Prelude.{◌≡◌, ℤ, pos, negsuc, [], ◌∷◌, codes, Bool, true, false}
+use Rattle.gas_model.specs.declared.rows.ArcKind.{ArcKind}
 use Rattle.gas_model.specs.declared.rows.ArcKind.TheVariants as kinds
 use Rattle.gas_model.specs.declared.rows.ArcState.TheVariants.{Active}
 use Rattle.gas_model.specs.declared.rows.Ends.{Ends}
@@ -36,26 +37,45 @@ pub record StepsMoveInward : Type 0 where
   pub one_past_high : high_becomes (ends (pos 6) (pos 8)) (pos 5) ≡ true
   pub further_high : high_becomes (ends (pos 6) (pos 8)) (pos 4) ≡ false
 
--- a station that raises the pressure by at most 3 Pa, to 7
-abbrev pub raising : Network
-raising =
-    two_nodes (node (codes "a") (pos 0) (pos 4) (pos 1) (pos 1)) (node (codes "b") (pos 7) (pos 7) (negsuc 0) (negsuc 0))
-    (arc (codes "c") (pos 0) (pos 10) (kinds.Station (pos 0) (pos 100000000) (pos 3) (pos 2) (pos 3)))
+-- an arc of a kind between 4 Pa at most and 7 Pa
+abbrev pub between : ArcKind → Network
+between kind =
+    two_nodes (node (codes "a") (pos 0) (pos 4) (pos 1) (pos 1)) (node (codes "b") (pos 7) (pos 7) (negsuc 0) (negsuc 0)) (arc (codes "c") (pos 0) (pos 10) kind)
 
-abbrev pub low_square : PartState → Rule → ℤ → Bool
-low_square part rule C =
-    step_holds raising (record { scale = pos 1; part = part; bounds = record { flows = ends (pos 0) (pos 10) ∷ []; squares = ends (negsuc 4) (pos 16) ∷ ends (pos 49) (pos 49) ∷ [] } })
+-- a station that raises the pressure by at most 3 Pa, a control valve that reduces it by 2 to 3 Pa, and a loss of as much
+abbrev pub raising : Network
+raising = between (kinds.Station (pos 0) (pos 100000000) (pos 3) (pos 2) (pos 3))
+
+abbrev pub reducing : Network
+reducing = between (kinds.Control (pos 0) (pos 100000000) (pos 2) (pos 3))
+
+abbrev pub losing : Network
+losing = between (kinds.Loss (pos 2) (pos 3))
+
+-- the lower end of the first square, which is -5, becomes C by a rule of the arc, along which 1 to 10 flow
+abbrev pub low_square : Network → PartState → Rule → ℤ → Bool
+low_square p part rule C =
+    step_holds p (record { scale = pos 1; part = part; bounds = record { flows = ends (pos 1) (pos 10) ∷ []; squares = ends (negsuc 4) (pos 16) ∷ ends (pos 49) (pos 49) ∷ [] } })
     (step (Square 0) true C rule 0)
 
-abbrev pub active : PartState
-active = with_state (fresh_part raising) 0 Active
+-- the state in which the arc is active
+abbrev pub active : Network → PartState
+active p = with_state (fresh_part p) 0 Active
 
--- a rule with roots gives no value below 0, and no rule of an arc gives any as long as its state isn't fixed
+-- A rule with roots gives no value below 0, though its condition holds there; and no rule of an arc gives any as long as its
+-- state isn't fixed.
 pub record RulesKeepTheirSign : Type 0 where
-  pub root : low_square active rules.Rise (negsuc 0) ≡ false
-  pub root_zero : low_square active rules.Rise (pos 0) ≡ true
-  pub ratio : low_square active rules.Ratio (negsuc 0) ≡ true
-  pub not_fixed : low_square (fresh_part raising) rules.Ratio (negsuc 0) ≡ false
+  pub rise : low_square raising (active raising) rules.Rise (negsuc 0) ≡ false
+  pub rise_zero : low_square raising (active raising) rules.Rise (pos 0) ≡ true
+  pub fall : low_square reducing (active reducing) rules.Fall (negsuc 0) ≡ false
+  pub fall_zero : low_square reducing (active reducing) rules.Fall (pos 0) ≡ true
+  pub reach : low_square losing (fresh_part losing) rules.Reach (negsuc 0) ≡ false
+  pub reach_zero : low_square losing (fresh_part losing) rules.Reach (pos 0) ≡ true
+  pub drop : low_square losing (fresh_part losing) rules.Drop (negsuc 0) ≡ false
+  pub drop_zero : low_square losing (fresh_part losing) rules.Drop (pos 0) ≡ true
+  pub along : low_square losing (fresh_part losing) rules.Along (negsuc 0) ≡ true
+  pub ratio : low_square raising (active raising) rules.Ratio (negsuc 0) ≡ true
+  pub not_fixed : low_square raising (fresh_part raising) rules.Ratio (negsuc 0) ≡ false
 
 -- a step or a closing names a variable, a node and an arc of the problem
 pub record StepsNameTheirPlace : Type 0 where

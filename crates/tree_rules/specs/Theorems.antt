@@ -5,7 +5,7 @@ use Rattle.gas_model.specs.declared.rows.PartState.{PartState}
 use Rattle.gas_model.specs.Rows.{Network}
 use Rattle.gas_model.specs.Choices.{IsListed}
 use Rattle.gas_model.specs.Points.{Point, Meets, IsInfeasible}
-use Rattle.gas_model.specs.Boxes.{BoxFits, Contains}
+use Rattle.gas_model.specs.Boxes.{BoxFits, is_var, Contains}
 use Rattle.gas_model.specs.Within.{IsWithin}
 use Rattle.tree_cert.specs.declared.line.Step.{Step}
 use Rattle.tree_cert.specs.declared.line.Closing.{Closing}
@@ -13,7 +13,7 @@ use Rattle.tree_cert.specs.declared.line.Head.{Head}
 use Rattle.tree_cert.specs.declared.line.Line.{Line}
 use Rattle.tree_cert.specs.Tree.{Tree, IsClosed}
 use Rattle.tree_cert.specs.TreeRules.{Passes, PassesWhole}
-use Rattle.tree_rules.specs.Rules.{PartBox, step_holds, stepped, closing_holds}
+use Rattle.tree_rules.specs.Rules.{PartBox, rule_holds, step_holds, stepped, closing_holds}
 use Rattle.tree_rules.specs.Branches.{same_head, rules_of}
 
 -- the choices have all picks and states of the part state
@@ -42,6 +42,12 @@ abbrev pub StepsKeepPoints : Type 0
 StepsKeepPoints =
     (p : Network) (b : PartBox) (s : Step) (picks : List ℕ) (states : List ArcState) (x : Point)
     → IsWithin p → IsBoxOf p b → IsTrue (step_holds p b s) → IsIn p b picks states x → IsIn p (stepped b s) picks states x
+
+-- The condition of a rule alone, whichever value it gives, names a variable of the problem and keeps every point.
+abbrev pub RulesKeepPoints : Type 0
+RulesKeepPoints =
+    (p : Network) (b : PartBox) (s : Step) (picks : List ℕ) (states : List ArcState) (x : Point)
+    → IsWithin p → IsBoxOf p b → IsTrue (rule_holds p b s.rule s.place s.var s.low s.value) → IsIn p b picks states x → IsTrue (is_var p s.var) × IsIn p (stepped b s) picks states x
 
 -- a closing that holds leaves no point
 abbrev pub ClosingsRefute : Type 0

@@ -1,5 +1,5 @@
 -- The value that each rule gives each end of a box, and that it gives none that is tighter; and where closings hold.
-use Rattle.std.specs.Prelude.{◌≡◌, ℕ, ℤ, pos, negsuc, ◌+ℤ◌, ◌-ℤ◌, List, [], ◌∷◌, codes, Bool, true, false, not, ◌&&◌, cond}
+use Rattle.std.specs.Prelude.{◌≡◌, ℕ, ℤ, pos, negsuc, ◌+ℤ◌, ◌-ℤ◌, ◌*ℤ◌, List, [], ◌∷◌, codes, Bool, true, false, not, ◌&&◌, cond}
 use Rattle.std.specs.List.{list_all}
 use Rattle.gas_model.specs.declared.rows.ArcKind.TheVariants.{Short}
 use Rattle.gas_model.specs.declared.rows.Ends.{Ends}
@@ -95,11 +95,21 @@ sixteenth_values =
     ∷ lower Pipe piped OfFlow (negsuc 99) ∷ upper Pipe piped OfFlow (pos 147)
     ∷ lower Inner reduced OfFrom (pos 576) ∷ upper Inner reduced OfTo (pos 784)
     ∷ lower Fall reduced OfFrom (pos 576) ∷ upper Fall reduced OfFrom (pos 1936) ∷ lower Fall reduced OfTo (pos 64) ∷ upper Fall reduced OfTo (pos 1024)
+    ∷ lower Rise raised OfFrom (pos 16) ∷ upper Rise raised OfTo (pos 2704)
     ∷ lower Ratio raised OfFrom (pos 113) ∷ upper Ratio raised OfTo (pos 3600)
+    ∷ lower Sign (loses (pos 7) (pos 9)) OfFlow (pos 0) ∷ upper Sign (loses (pos 7) (pos 9)) OfFlow (pos 0)
+    ∷ lower Reach (loses (pos 2) (pos 3)) OfFrom (pos 16) ∷ upper Reach (loses (pos 2) (pos 3)) OfFrom (pos 1936)
+    ∷ lower Reach (loses (pos 2) (pos 3)) OfTo (pos 64) ∷ upper Reach (loses (pos 2) (pos 3)) OfTo (pos 2704)
     ∷ lower Drop (loses (pos 2) (pos 3)) OfFrom (pos 576) ∷ upper Drop (loses (pos 2) (pos 3)) OfTo (pos 1024) ∷ []
 
+-- a loss of 3 Pa just fits back from 8 to 5 Pa, and one of 6 Pa forward from 10 to 4
+abbrev pub no_signs_in_sixteenths : List Value
+no_signs_in_sixteenths = lower Sign (loses (pos 3) (pos 3)) OfFlow (negsuc 9) ∷ upper Sign (loses (pos 6) (pos 6)) OfFlow (pos 9) ∷ []
+
 abbrev pub RulesGiveTheirValuesInSixteenths : Type 0
-RulesGiveTheirValuesInSixteenths = list_all (gives (pos 16) forward_sixteenths) sixteenth_values ≡ true
+RulesGiveTheirValuesInSixteenths =
+    (list_all (gives (pos 16) forward_sixteenths) sixteenth_values
+    && list_all (λ x. not (arc_step x.rule x.form (pos 16) forward_sixteenths x.of x.low x.value)) no_signs_in_sixteenths) ≡ true
 
 -- a rule gives no value to an end of which it says nothing, and none by another law; and the loss of 2 Pa fits both ways
 abbrev pub RulesGiveNothingElse : Type 0
@@ -113,12 +123,16 @@ RulesGiveNothingElse = list_all (λ x. not (arc_step x.rule x.form (pos 1) forwa
     ∷ lower Rise reduced OfFrom (pos 0) ∷ lower Zero equals OfFlow (negsuc 9) ∷ []) ≡ true
 
 -- ---- closings
--- squares of u to v, without a choice, and a flow of 2 forward
+-- a flow of q and squares of u to v, without a choice
+abbrev pub known : (q u v : ℤ) → ArcEnds
+known q u v = record { q = ends q q; u = ends u u; v = ends v v }
+
+-- squares of u to v, and a flow of 2 forward or back
 abbrev pub at : ℤ → ℤ → ArcEnds
-at u v = record { q = ends (pos 2) (pos 2); u = ends u u; v = ends v v }
+at u v = known (pos 2) u v
 
 abbrev pub at_back : ℤ → ℤ → ArcEnds
-at_back u v = record { q = ends (negsuc 1) (negsuc 1); u = ends u u; v = ends v v }
+at_back u v = known (negsuc 1) u v
 
 abbrev pub closes : Rule → LawForm → ArcEnds → Bool
 closes rule form e = arc_closing rule form (pos 1) e
@@ -140,6 +154,27 @@ ClosingsHoldPastTheirLaw = list_all (λ holds. holds)
     ∷ stays Equal equals (at (pos 1) (pos 2)) ∷ stays Zero shuts (at (pos 1) (pos 2)) ∷ stays Inner reduced (at (pos 1) (pos 900))
     ∷ stays Order raised (at (pos 2) (pos 1)) ∷ stays Way reduced (at_back (pos 36) (pos 16)) ∷ stays Along (loses (pos 2) (pos 3)) (at (pos 1) (pos 2)) ∷ []) ≡ true
 
+abbrev pub closes_16 : Rule → LawForm → ArcEnds → Bool
+closes_16 rule form e = arc_closing rule form (pos 16) e
+
+abbrev pub stays_16 : Rule → LawForm → ArcEnds → Bool
+stays_16 rule form e = not (arc_closing rule form (pos 16) e)
+
+-- The same pressures in sixteenths, where 4 Pa have the square 256: a flow of 2 is 32 sixteenths, and one sixteenth is a
+-- flow forward already.
+abbrev pub ClosingsHoldPastTheirLawInSixteenths : Type 0
+ClosingsHoldPastTheirLawInSixteenths = list_all (λ holds. holds)
+    (closes_16 Pipe piped (known (pos 32) (pos 319) (pos 256)) ∷ stays_16 Pipe piped (known (pos 32) (pos 320) (pos 256))
+    ∷ stays_16 Pipe piped (known (pos 32) (pos 384) (pos 256)) ∷ closes_16 Pipe piped (known (pos 32) (pos 385) (pos 256))
+    ∷ closes_16 Fall reduced (at (pos 575) (pos 256)) ∷ stays_16 Fall reduced (at (pos 576) (pos 256)) ∷ stays_16 Fall reduced (at (pos 784) (pos 256)) ∷ closes_16 Fall reduced (at (pos 785) (pos 256))
+    ∷ stays_16 Rise raised (at (pos 256) (pos 784)) ∷ closes_16 Rise raised (at (pos 256) (pos 785))
+    ∷ stays_16 Ratio raised (at (pos 256) (pos 576)) ∷ closes_16 Ratio raised (at (pos 256) (pos 577))
+    ∷ stays_16 Reach (loses (pos 2) (pos 3)) (at (pos 256) (pos 784)) ∷ closes_16 Reach (loses (pos 2) (pos 3)) (at (pos 256) (pos 785))
+    ∷ stays_16 Reach (loses (pos 2) (pos 3)) (at (pos 784) (pos 256)) ∷ closes_16 Reach (loses (pos 2) (pos 3)) (at (pos 785) (pos 256))
+    ∷ stays_16 Drop (loses (pos 2) (pos 3)) (known (pos 1) (pos 576) (pos 256)) ∷ closes_16 Drop (loses (pos 2) (pos 3)) (known (pos 1) (pos 575) (pos 256))
+    ∷ stays_16 Drop (loses (pos 2) (pos 3)) (known (pos 0) (pos 575) (pos 256))
+    ∷ stays_16 Drop (loses (pos 2) (pos 3)) (known (negsuc 0) (pos 256) (pos 576)) ∷ closes_16 Drop (loses (pos 2) (pos 3)) (known (negsuc 0) (pos 256) (pos 575)) ∷ []) ≡ true
+
 -- ---- the balance of a node
 -- three arcs, of which the last enters the first node and the others leave it, and a supply of 2 to 3
 abbrev pub joined : Network
@@ -150,15 +185,34 @@ joined = record {
   groups = [];
 }
 
-abbrev pub flows : PartBox
-flows = record { scale = pos 1; part = fresh_part joined; bounds = record { flows = ends (negsuc 9) (pos 20) ∷ ends (pos 1) (pos 4) ∷ ends (pos 5) (pos 7) ∷ []; squares = [] } }
+-- units of 1/K, in which the first flow lies between these ends and the others have those of their arcs
+abbrev pub flows : (K low high : ℤ) → PartBox
+flows K low high = record {
+  scale = K;
+  part = fresh_part joined;
+  bounds = record { flows = ends low high ∷ ends (K *ℤ pos 1) (K *ℤ pos 4) ∷ ends (K *ℤ pos 5) (K *ℤ pos 7) ∷ []; squares = [] };
+}
 
-abbrev pub balance_gives : ℕ → ℕ → Bool → ℤ → Bool
-balance_gives n a low C = rule_holds joined flows Balance n (Flow a) low C && not (rule_holds joined flows Balance n (Flow a) low (tighter low C))
+abbrev pub balance_gives : PartBox → ℕ → ℕ → Bool → ℤ → Bool
+balance_gives b n a low C = rule_holds joined b Balance n (Flow a) low C && not (rule_holds joined b Balance n (Flow a) low (tighter low C))
 
 -- The first flow is at least 2 - 4 + 5 and at most 3 - 1 + 7, and so by both nodes; the last is at least -10 + 1 - 3 and at
--- most 20 + 4 - 2.
+-- most 20 + 4 - 2. So it is in sixteenths.
+abbrev pub gives_all : PartBox → (first_low first_high last_low last_high : ℤ) → Bool
+gives_all b first_low first_high last_low last_high =
+    balance_gives b 0 0 true first_low && balance_gives b 0 0 false first_high && balance_gives b 1 0 true first_low && balance_gives b 1 0 false first_high
+    && balance_gives b 0 2 true last_low && balance_gives b 0 2 false last_high && not (closing_at joined b Balance 0)
+
 abbrev pub BalanceGivesItsValues : Type 0
 BalanceGivesItsValues =
-    (balance_gives 0 0 true (pos 3) && balance_gives 0 0 false (pos 9) && balance_gives 1 0 true (pos 3) && balance_gives 1 0 false (pos 9)
-    && balance_gives 0 2 true (negsuc 11) && balance_gives 0 2 false (pos 22) && not (closing_at joined flows Balance 0)) ≡ true
+    (gives_all (flows (pos 1) (negsuc 9) (pos 20)) (pos 3) (pos 9) (negsuc 11) (pos 22)
+    && gives_all (flows (pos 16) (negsuc 159) (pos 320)) (pos 48) (pos 144) (negsuc 191) (pos 352)) ≡ true
+
+abbrev pub balance_closes : (K first : ℤ) → Bool
+balance_closes K first = closing_at joined (flows K first first) Balance 0
+
+-- With a first flow of f the others leave a supply of f + 1 - 7 to f + 4 - 5, which has to meet 2 to 3.
+abbrev pub BalanceClosesPastItsLaw : Type 0
+BalanceClosesPastItsLaw = list_all (λ holds. holds)
+    (not (balance_closes (pos 1) (pos 9)) ∷ balance_closes (pos 1) (pos 10) ∷ not (balance_closes (pos 1) (pos 3)) ∷ balance_closes (pos 1) (pos 2)
+    ∷ not (balance_closes (pos 16) (pos 144)) ∷ balance_closes (pos 16) (pos 145) ∷ not (balance_closes (pos 16) (pos 48)) ∷ balance_closes (pos 16) (pos 47) ∷ []) ≡ true

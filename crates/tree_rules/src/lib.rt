@@ -20,13 +20,15 @@ pub use ranges::{
     cuts_ask_for_all_this, rules_keep_their_sign, steps_move_inward, steps_name_their_place,
 };
 pub use soundness::{
-    closings_refute, heads_are_told_apart, steps_keep_points, texts_refute, trees_refute_boxes,
+    closings_refute, heads_are_told_apart, rules_keep_points, steps_keep_points, texts_refute,
+    trees_refute_boxes,
 };
 pub use tightest::{
     each_at_most, greatest_at_least, greatest_at_most, least_at_least, least_at_most, no_at_least,
     rules_loosen, steps_loosen,
 };
 pub use values::{
-    balance_gives_its_values, closings_hold_past_their_law, rules_give_nothing_else,
-    rules_give_their_values, rules_give_their_values_in_sixteenths,
+    balance_closes_past_its_law, balance_gives_its_values, closings_hold_past_their_law,
+    closings_hold_past_their_law_in_sixteenths, rules_give_nothing_else, rules_give_their_values,
+    rules_give_their_values_in_sixteenths,
 };

@@ -1,11 +1,17 @@
 // What is proved of the rules and of all trees, on functions that do nothing.
-ghost use Rattle.tree_rules.specs.Theorems.{ClosingsRefute, HeadsAreToldApart, StepsKeepPoints, TextsRefute, TreesRefuteBoxes};
+ghost use Rattle.tree_rules.specs.Theorems.{ClosingsRefute, HeadsAreToldApart, RulesKeepPoints, StepsKeepPoints, TextsRefute, TreesRefuteBoxes};
 
 /// A step that is allowed keeps every point of the box, over any denominator, that meets the problem in listed choices
 /// which agree with the box's part state.
 #[tactic(auto, using(crate::proofs::StepSound::steps_keep_points))]
 pub fn steps_keep_points()
     ensures { StepsKeepPoints }
+{}
+
+/// The condition of a rule does so by itself, whichever value it gives: the range in which a step's value must lie, and
+/// its sign, are of no need for that.
+pub fn rules_keep_points()
+    ensures { RulesKeepPoints }
 {}
 
 /// A box in which a closing holds has no such point.

@@ -1,5 +1,5 @@
 // What the rules give in small boxes, on functions that do nothing. The numbers are worked by hand.
-ghost use Rattle.tree_rules.specs.Values.{BalanceGivesItsValues, ClosingsHoldPastTheirLaw, RulesGiveNothingElse, RulesGiveTheirValues, RulesGiveTheirValuesInSixteenths};
+ghost use Rattle.tree_rules.specs.Values.{BalanceClosesPastItsLaw, BalanceGivesItsValues, ClosingsHoldPastTheirLaw, ClosingsHoldPastTheirLawInSixteenths, RulesGiveNothingElse, RulesGiveTheirValues, RulesGiveTheirValuesInSixteenths};
 
 /// Each rule of an arc gives each end that it speaks of a value worked by hand, and none that is tighter by one.
 pub fn rules_give_their_values()
@@ -24,4 +24,14 @@ pub fn balance_gives_its_values()
 /// Closings hold just past what their law allows, and rules without a closing close nothing.
 pub fn closings_hold_past_their_law()
     ensures { ClosingsHoldPastTheirLaw }
+{}
+
+/// So do they in sixteenths.
+pub fn closings_hold_past_their_law_in_sixteenths()
+    ensures { ClosingsHoldPastTheirLawInSixteenths }
+{}
+
+/// The balance closes just past the supply that the other flows leave, in sixteenths too.
+pub fn balance_closes_past_its_law()
+    ensures { BalanceClosesPastItsLaw }
 {}

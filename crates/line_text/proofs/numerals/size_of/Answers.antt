@@ -1,13 +1,12 @@
-use Rattle.std.proofs.Common.{◌^◌, ◌≤◌, arith}
-use Rattle.std.specs.Str.Parse.{digits_value}
-use Rattle.std.proofs.lemmas.Str.Parse.{parse_digits}
-use Rattle.std.proofs.lemmas.Result.{OkIff-at_err}
-use Rattle.line_text.proofs.Decimals.{own}
-use Rattle.line_text.proofs.Numbers.{too_wide}
+use Rattle.std.proofs.Common.{◌≡◌, ◌<◌, ◌-◌, ◌+◌, ◌*◌, ◌^◌, length, get_or, min, true, subst, sym, ◌∙◌, arith}
+use Rattle.std.specs.Char.{is_ascii_digit}
+use Rattle.line_text.proofs.Sizes.{Passed, one_more}
 use Rattle.line_text.proofs.numerals.size_of.Goals as goal
 
-pub returns-in-Err : goal.returns-in-Err
-returns-in-Err c =
-    let not_small = OkIff-at_err _ _ _ _ (parse_digits own 64 c.args.digits.now c.parse.result c.parse.ensures.value.0 c.requires.digits) c.in-Err.is in
-    let wide : 2 ^ 64 ≤ digits_value 10 c.args.digits.now = too_wide _ (λ lt. not_small (c.requires.some, lt)) in
-    omega (arith, wide)
+pub loop-digit-preserved : goal.loop-digit-preserved
+loop-digit-preserved c =
+    let i = c.loop-digit.digit-index in
+    let lt : i < length c.args.digits.now = omega arith in
+    let is : is_ascii_digit (get_or c.args.digits.now i 0) ≡ true = sym c.is_ascii_digit.ensures.value ∙ c.if-not-is_ascii_digit.false in
+    let size : c.saturating_add-size.result ≡ min (min (c.loop-digit.size * 10) (2 ^ 64 - 1) + (get_or c.args.digits.now i 0 - 48)) (2 ^ 64 - 1) = omega (arith, c.saturating_add-size.ensures, c.saturating_mul.ensures, c.from.ensures) in
+    subst (Passed c.args.digits.now (i + 1)) (sym size) (one_more c.args.digits.now i c.loop-digit.size lt c.loop-digit.invariant is)

@@ -1,5 +1,8 @@
-use Rattle.tree_check.proofs.Judging.{refuted}
+use Rattle.tree_check.proofs.Judging.{each_finding, refuted}
 use Rattle.tree_check.proofs.check.check_tree.Goals as goal
+
+pub returns-clause-each : goal.returns-clause-each
+returns-clause-each c = each_finding c.args.p.now c.args.text.now c.judge.result c.judge.ensures.exact
 
 pub returns-clause-sound : goal.returns-clause-sound
 returns-clause-sound c e =
