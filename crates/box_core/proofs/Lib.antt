@@ -1,3 +1,0 @@
-pub mod EndFits
-pub mod HeldEnds
-pub mod EmptyVars

@@ -99,7 +99,7 @@ fn sixteenths_count_sixteen_to_a_unit(rt: HostRuntime) -> Result<(), Fail> {
     let b = opened::<Sixteenths>(rt.alloc())?;
     assert_eq!(rt; b.ends(Q0), (-160, 160));
     assert_eq!(rt; b.ends(S0), (400, 400));
-    let mut copy = b.copy(rt.alloc())?;
+    let mut copy = b.copy()?;
     let (lo, hi) = copy.ends(S1);
     if lo != 0 || hi != 1296 {
         return Err(Fail::from("other ends"));

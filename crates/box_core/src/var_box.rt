@@ -1,11 +1,11 @@
-// The box of all variables.
+// The box of all variables, on a grid.
 ghost use Rattle.std.specs.Prelude.{◌≡◌, IfOk, IfNone, IfSome, IsTrue};
 ghost use Rattle.gas_model.specs.Boxes.{ends_of, is_in_box, width_of, first_empty, opening, tightened, may_become, BoxFits};
-ghost use Rattle.box_core.specs.Held.{AreLimited};
-ghost use Rattle.box_core.specs.Empty.{LeavesAll, LeavesNone};
+ghost use Rattle.gas_model.specs.BoxLimits.{AreLimited};
+ghost use Rattle.box_ends.specs.Empty.{LeavesAll, LeavesNone};
 
-use crate::ends::{all_flow_ends, all_square_ends, place_of_empty, with_end};
-use gas_model::{Ends, NoMemory, Problem, Var};
+use box_ends::ScaledBox;
+use gas_model::{NoMemory, Problem, Var};
 use interval_core::Grid;
 use std::alloc::Global;
 use std::marker::{Model, PhantomData};
@@ -15,20 +15,19 @@ use std::marker::{Model, PhantomData};
 /// above its upper end, and may have passed it by one where it moved.
 #[derive(Drop)]
 pub struct VarBox<G: Grid> {
-    flows: Vec<Ends>,
-    squares: Vec<Ends>,
+    scaled: ScaledBox,
     grid: PhantomData<G>,
 }
 
 impl<G: Grid> Model for VarBox<G> {
+    ghost use Rattle.std.specs.Prelude.{◌≡◌};
     ghost use Rattle.gas_model.specs.Boxes.{Bounds};
-    ghost use Rattle.box_core.specs.Held.{IsHeld};
 
     ghost Value = { Bounds };
 
-    ghost view = { λ a. record { flows = a.flows.items; squares = a.squares.items } };
+    ghost view = { λ a. a.scaled.bounds };
 
-    ghost invariant = { λ a. IsHeld G.SCALE (record { flows = a.flows.items; squares = a.squares.items }) };
+    ghost invariant = { λ a. a.scaled.scale ≡ G.SCALE };
 }
 
 impl<G: Grid> VarBox<G> {
@@ -37,22 +36,18 @@ impl<G: Grid> VarBox<G> {
         ensures bounds { IfOk result (λ b. b ≡ opening G.SCALE p.now) }
         ensures fits { IfOk result (λ b. BoxFits p.now b) }
     {
-        let flows = all_flow_ends(alloc, G::SCALE, p)?;
-        let squares = all_square_ends(alloc, G::SCALE, p)?;
         Ok(VarBox {
-            flows,
-            squares,
+            scaled: ScaledBox::opening(alloc, G::SCALE, p)?,
             grid: PhantomData,
         })
     }
 
     /// The same box once more.
-    pub fn copy(&self, alloc: Global) -> Result<VarBox<G>, NoMemory>
+    pub fn copy(&self) -> Result<VarBox<G>, NoMemory>
         ensures { IfOk result (λ b. b ≡ self.now) }
     {
         Ok(VarBox {
-            flows: Vec::from_slice(alloc, &self.flows)?,
-            squares: Vec::from_slice(alloc, &self.squares)?,
+            scaled: self.scaled.copy()?,
             grid: PhantomData,
         })
     }
@@ -63,10 +58,7 @@ impl<G: Grid> VarBox<G> {
         ensures value { result ≡ ((ends_of self.now var).lo, (ends_of self.now var).hi) }
         ensures limits { AreLimited G.SCALE var (ends_of self.now var) }
     {
-        let ends = match var {
-            Var::Flow(arc) => self.flows[arc as usize],
-            Var::Square(node) => self.squares[node as usize],
-        };
+        let ends = self.scaled.ends(var);
         (ends.lo, ends.hi)
     }
 
@@ -75,8 +67,7 @@ impl<G: Grid> VarBox<G> {
         requires { IsTrue (is_in_box self.now var) }
         ensures { result ≡ width_of (ends_of self.now var) }
     {
-        let (lo, hi) = self.ends(var);
-        hi - lo
+        self.scaled.width(var)
     }
 
     /// The first variable whose lower end is above its upper end, flows before squares. `None` exactly where there is
@@ -86,11 +77,7 @@ impl<G: Grid> VarBox<G> {
         ensures none { IfNone result (LeavesAll self.now) }
         ensures some { IfSome result (λ v. LeavesNone self.now v) }
     {
-        if let Some(arc) = place_of_empty(&self.flows) {
-            return Some(Var::Flow(arc));
-        }
-        let node = place_of_empty(&self.squares)?;
-        Some(Var::Square(node))
+        self.scaled.first_empty()
     }
 
     /// Moves the lower (`low`) or the upper end of a variable of the box to `value`, inward, and at most one past the
@@ -100,15 +87,6 @@ impl<G: Grid> VarBox<G> {
         requires value { IsTrue (may_become low value (ends_of self.old var)) }
         ensures { self.new ≡ tightened self.old var low value }
     {
-        match var {
-            Var::Flow(arc) => {
-                let ends = with_end(low, value, self.flows[arc as usize]);
-                self.flows[arc as usize] = ends;
-            }
-            Var::Square(node) => {
-                let ends = with_end(low, value, self.squares[node as usize]);
-                self.squares[node as usize] = ends;
-            }
-        }
+        self.scaled.tighten(var, low, value);
     }
 }

@@ -1,25 +1,15 @@
 -- The pressures at the ends of an active arc, in the form of the code, and that what it computes fits.
-use Rattle.std.proofs.Common.{◌≡◌, ◌*◌, ◌^◌, lit≤, refl, arith, ℤ, pos, ◌*ℤ◌, ◌≤ℤ◌, FitsSigned, w64, IsTrue, ◌&&◌, int_le}
+use Rattle.std.proofs.Common.{◌≡◌, ◌*◌, ◌^◌, lit≤, refl, arith, ℤ, pos, ◌*ℤ◌, FitsSigned, w64, IsTrue, ◌&&◌, int_le}
 use Rattle.std.specs.Int.{w128}
 use borrow.Author.Differences.{fits_in}
-use Rattle.integer_laws.specs.Sizes.{IsWithin}
 use Rattle.integer_laws.proofs.Ring.{linear, one_mul}
-use Rattle.integer_laws.proofs.SizeLemmas.{within_fits, product_within, between_within}
+use Rattle.integer_laws.proofs.SizeLemmas.{within_fits, product_within}
 use Rattle.gas_model.specs.Limits.{is_ratio_part, is_square}
 use Rattle.gas_model.specs.Curves.{square, keeps_inner}
-use Rattle.element_laws.proofs.NearFits.{square_size}
+use Rattle.gas_model.proofs.LimitFacts.{ratio_from, ratio_most, ratio_size, square_size}
 
 pub inner_at_one : (in_min out_max u v : ℤ) → keeps_inner in_min out_max (pos 1) u v ≡ (int_le (square in_min) u && int_le v (square out_max))
 inner_at_one in_min out_max u v = rw (one_mul (square in_min), one_mul (square out_max)) refl
-
-ratio_from : (part : ℤ) → IsTrue (is_ratio_part part) → pos 1 ≤ℤ part
-ratio_from part t = grind (arith, linear)
-
-ratio_most : (part : ℤ) → IsTrue (is_ratio_part part) → part ≤ℤ pos (2 ^ 20)
-ratio_most part t = grind (arith, linear)
-
-ratio_size : (part : ℤ) → IsTrue (is_ratio_part part) → IsWithin (2 ^ 20) part
-ratio_size part t = between_within (2 ^ 20) part (omega (arith, linear, ratio_from part t)) (ratio_most part t)
 
 pub record RatioFits (part s : ℤ) : Type 0 where
   pub small : FitsSigned w64 part

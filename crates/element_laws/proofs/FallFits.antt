@@ -6,7 +6,7 @@ use Rattle.integer_laws.proofs.SizeLemmas.{within_fits, sum_within, difference_w
 use Rattle.gas_model.specs.Limits.{is_difference, is_square}
 use Rattle.gas_model.specs.Curves.{at_least_zero}
 use Rattle.element_laws.specs.Sizes.{is_wide_square, is_wide_difference}
-use Rattle.element_laws.proofs.NearFits.{square_from, square_most, square_size}
+use Rattle.gas_model.proofs.LimitFacts.{square_from, square_most, square_size}
 
 pub wide_difference : (d : ℤ) → IsTrue (is_difference d) → IsTrue (is_wide_difference d)
 wide_difference d t = grind (arith, linear)

@@ -4,10 +4,12 @@ pub mod DropFits
 pub mod Widths
 pub mod Failing
 pub mod NearFits
-pub mod NetFlows
+pub mod NetFits
 pub mod Order
 pub mod NearLaws
 pub mod RootFits
 pub mod Connectives
 pub mod ActiveFits
 pub mod FallFits
+pub mod ScaledFits
+pub mod BoxEnds

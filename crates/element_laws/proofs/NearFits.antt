@@ -1,26 +1,15 @@
 -- What the code of a resistance's law computes fits.
-use Rattle.std.proofs.Common.{◌*◌, ◌+◌, ◌^◌, lit≤, arith, ℤ, pos, ◌+ℤ◌, ◌-ℤ◌, ◌*ℤ◌, ◌≤ℤ◌, FitsSigned, w64, IsTrue}
+use Rattle.std.proofs.Common.{◌*◌, ◌+◌, ◌^◌, lit≤, arith, ℤ, ◌+ℤ◌, ◌-ℤ◌, ◌*ℤ◌, FitsSigned, w64, IsTrue}
 use Rattle.std.specs.Int.{w128}
 use borrow.Author.Differences.{fits_in}
 use Rattle.integer_laws.specs.Sizes.{IsWithin}
 use Rattle.integer_laws.proofs.Ring.{linear}
-use Rattle.integer_laws.proofs.SizeLemmas.{within_parts, one_part, within_fits, product_within, sum_within, difference_within, between_within}
+use Rattle.integer_laws.proofs.SizeLemmas.{within_fits, product_within, sum_within, difference_within}
 use Rattle.gas_model.specs.declared.rows.Drag.{Drag}
 use Rattle.gas_model.specs.Limits.{is_drag_within, is_flow, is_square}
+use Rattle.gas_model.proofs.LimitFacts.{flow_size, square_size}
 use Rattle.element_laws.specs.Sizes.{most_flow}
 use Rattle.element_laws.proofs.DropFits.{drag_parts, part_from, part_most, part_size}
-
-pub square_from : (s : ℤ) → IsTrue (is_square s) → pos 0 ≤ℤ s
-square_from s t = grind (arith, linear)
-
-pub square_most : (s : ℤ) → IsTrue (is_square s) → s ≤ℤ pos (10 ^ 16)
-square_most s t = grind (arith, linear)
-
-pub square_size : (s : ℤ) → IsTrue (is_square s) → IsWithin (10 ^ 16) s
-square_size s t = between_within (10 ^ 16) s (square_from s t) (square_most s t)
-
-pub flow_size : (q : ℤ) → IsTrue (is_flow q) → IsWithin 1000000000000 q
-flow_size q t = grind (arith, linear, within_parts, one_part q)
 
 pub record NearFits (law : Drag) (tol q u v : ℤ) : Type 0 where
   pub den_small : FitsSigned w64 law.den

@@ -37,6 +37,7 @@ near_from_kept p tol s fits k = record {
         let kept : IsTrue (may_be p s.picks a row (state_at s.states a)) = to_row (λ r. may_be p s.picks a r (state_at s.states a)) p.arcs a row e (k.choices a (slice_get_within p.arcs a row e)) in
         ap (may_be p s.picks a row) (sym (get_or_from_slice_get s.states a state Opened f)) ∙ kept;
   };
+  numbers = record { flows = fits.flows; squares = fits.squares };
   flows = λ a row e. to_row (λ r. keeps_flow r (pos 1) (number_at s.flows a)) p.arcs a row e (k.flows a (slice_get_within p.arcs a row e));
   squares = λ n node e. to_row (λ r. keeps_square r (pos 1) (number_at s.squares n)) p.nodes n node e (k.pressures n (slice_get_within p.nodes n node e));
   balances = λ n node e. to_row (λ r. balances r (pos 1) (number_at s.flows) n p.arcs) p.nodes n node e (k.balances n (slice_get_within p.nodes n node e));

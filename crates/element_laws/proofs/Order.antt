@@ -1,6 +1,7 @@
 -- The first law of a list that a test refuses, part by part.
-use Rattle.std.proofs.Common.{◌≡◌, ℕ, zero, suc, ◌+◌, ◌<◌, refl, sym, ap, ◌∙◌, arith, List, [], ◌∷◌, ◌++◌, map, Bool, true, false, ◌&&◌, IsTrue, add-zero, append_assoc}
+use Rattle.std.proofs.Common.{◌≡◌, ℕ, zero, suc, ◌+◌, ◌<◌, refl, sym, ap, ◌∙◌, arith, List, [], ◌∷◌, ◌++◌, map, Bool, true, false, IsTrue, add-zero, append_assoc}
 use Rattle.std.specs.List.{list_all, range_with_len}
+use Rattle.std.proofs.lemmas.Bool.{and_from}
 use Rattle.std.proofs.lemmas.List.Folds.{list_all-append}
 use Rattle.element_laws.specs.declared.broken.Broken.{Broken}
 use Rattle.element_laws.specs.FirstBroken.{laws_for, IsFirstRefused}
@@ -15,16 +16,13 @@ first_left test xs ys law f = record {
   broken = f.broken;
 }
 
-both : (a b : Bool) → a ≡ true → b ≡ true → (a && b) ≡ true
-both a b p q = grind arith
-
 -- it stands behind the first part, which the test passes
 pub first_right : (test : Broken → Bool) (xs ys : List Broken) (law : Broken) → list_all test xs ≡ true → IsFirstRefused test ys law → IsFirstRefused test (xs ++ ys) law
 first_right test xs ys law h f = record {
   earlier = xs ++ f.earlier;
   later = f.later;
   order = ap (λ (l : List Broken). xs ++ l) f.order ∙ sym (append_assoc xs f.earlier (law ∷ f.later));
-  kept = list_all-append test xs f.earlier ∙ both (list_all test xs) (list_all test f.earlier) h f.kept;
+  kept = list_all-append test xs f.earlier ∙ and_from (list_all test xs) (list_all test f.earlier) h f.kept;
   broken = f.broken;
 }
 
@@ -33,7 +31,7 @@ kept_from : (test : Broken → Bool) (law : ℕ → Broken) (a n : ℕ) → ((i 
 kept_from test law a zero h = refl
 kept_from test law a (suc n) h =
     let here : test (law a) ≡ true = ap (λ (i : ℕ). test (law i)) (sym (add-zero a)) ∙ h 0 (omega arith) in
-    both (test (law a)) (list_all test (map law (range_with_len (a + 1) n))) here
+    and_from (test (law a)) (list_all test (map law (range_with_len (a + 1) n))) here
     (kept_from test law (a + 1) n (λ i l. ap (λ (j : ℕ). test (law j)) (let e : a + 1 + i ≡ a + suc i = omega arith in e) ∙ h (suc i) (omega arith)))
 
 first_from : (test : Broken → Bool) (law : ℕ → Broken) (a n i j : ℕ) → j ≡ a + i → i < n → test (law j) ≡ false → ((k : ℕ) → k < i → IsTrue (test (law (a + k)))) → IsFirstRefused test (map law (range_with_len a n)) (law j)
@@ -52,7 +50,7 @@ first_from test law a (suc n) (suc i) j e l b h =
       earlier = law a ∷ f.earlier;
       later = f.later;
       order = ap (λ (laws : List Broken). law a ∷ laws) f.order;
-      kept = both (test (law a)) (list_all test f.earlier) here f.kept;
+      kept = and_from (test (law a)) (list_all test f.earlier) here f.kept;
       broken = f.broken;
     }
 

@@ -7,7 +7,8 @@ use Rattle.integer_laws.proofs.Ring.{linear, mul_add, mul_zero, mul_lt_left}
 use Rattle.gas_model.specs.declared.rows.ArcRow.{ArcRow}
 use Rattle.gas_model.specs.declared.rows.NodeRow.{NodeRow}
 use Rattle.gas_model.specs.Points.{sum_arcs, leaving, entering, sum_out, sum_in, net_flow, balances}
-use Rattle.tree_rules.specs.NodeRules.{ascends_after, are_cut_nodes, is_cut_node, crosses, all_arcs, sum_nodes, least_supply, greatest_supply, is_unbalanced}
+use Rattle.tree_cert.specs.Spelling.{ascends_after}
+use Rattle.tree_rules.specs.NodeRules.{are_cut_nodes, is_cut_node, crosses, all_arcs, sum_nodes, least_supply, greatest_supply, is_unbalanced}
 use Rattle.tree_rules.proofs.UnitSound.{both, either}
 use Rattle.tree_rules.proofs.NodeSound.{balance_says}
 

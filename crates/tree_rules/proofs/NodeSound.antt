@@ -1,10 +1,11 @@
 -- A step by the balance of a node keeps every point, over any denominator, and a closing has none.
-use Rattle.std.proofs.Common.{◌≡◌, ◌≢◌, ℕ, zero, suc, ◌+◌, ◌≤◌, inl, inr, refl, sym, ap, ◌∙◌, subst, arith, ℤ, pos, ◌+ℤ◌, ◌-ℤ◌, ◌*ℤ◌, ◌≤ℤ◌, ◌<ℤ◌, Bool, true, false, cond, ◌==◌, int_le, int_lt, IsTrue, List, [], ◌∷◌, slice_get, Some, add-zero, zero-add, eq-eqb, ne_eqb}
+use Rattle.std.proofs.Common.{◌≡◌, ℕ, suc, ◌+◌, inl, inr, refl, sym, ap, ◌∙◌, subst, arith, ℤ, pos, ◌+ℤ◌, ◌-ℤ◌, ◌*ℤ◌, ◌≤ℤ◌, ◌<ℤ◌, Bool, true, false, cond, ◌==◌, int_le, int_lt, IsTrue, List, [], ◌∷◌, slice_get, Some, add-zero, zero-add}
 use Rattle.integer_laws.proofs.Ring.{linear, mul_add, mul_neg, mul_left_comm, mul_sub, mul_le_left, mul_lt_left, mul_zero}
 use Rattle.gas_model.specs.declared.rows.ArcRow.{ArcRow}
 use Rattle.gas_model.specs.declared.rows.NodeRow.{NodeRow}
-use Rattle.gas_model.specs.Points.{sum_arcs, leaving, entering, sum_out, sum_in, net_flow, balances}
-use Rattle.tree_rules.specs.NodeRules.{other, sum_other_out, sum_other_in, leaving_step, entering_step, balance_closing}
+use Rattle.gas_model.specs.Points.{sum_arcs, leaving, entering, other, sum_out, sum_in, sum_other_out, sum_other_in, net_flow, balances}
+use Rattle.gas_model.proofs.NodeSums.{own_out, own_in}
+use Rattle.tree_rules.specs.NodeRules.{leaving_step, entering_step, balance_closing}
 use Rattle.tree_rules.proofs.UnitSound.{both, either}
 use Rattle.tree_rules.proofs.ArcSound.{Keeps}
 
@@ -22,25 +23,6 @@ pub sum_below : (k m : ℤ) (f g : ℕ → ArcRow → ℤ) (i : ℕ) (rows : Lis
 sum_below k m f g i [] h = omega (arith, linear, mul_zero k, mul_zero m)
 sum_below k m f g i (row ∷ rows) h =
     omega (arith, linear, mul_add k (f i row) (sum_arcs f (i + 1) rows), mul_add m (g i row) (sum_arcs g (i + 1) rows), below_first k m f g i row rows h, sum_below k m f g (i + 1) rows (below_rest k m f g i row rows h))
-
--- ---- the sum without the row a, and its own term
-other_same : (f : ℕ → ArcRow → ℤ) (a i : ℕ) (row : ArcRow) → i ≡ a → other a f i row ≡ pos 0
-other_same f a i row e = ap (λ (b : Bool). cond b (pos 0) (f i row)) (eq-eqb i a e)
-
-other_apart : (f : ℕ → ArcRow → ℤ) (a i : ℕ) (row : ArcRow) → i ≢ a → other a f i row ≡ f i row
-other_apart f a i row n = ap (λ (b : Bool). cond b (pos 0) (f i row)) (ne_eqb i a n)
-
-sum_past : (f : ℕ → ArcRow → ℤ) (a i : ℕ) (rows : List ArcRow) → suc a ≤ i → sum_arcs (other a f) i rows ≡ sum_arcs f i rows
-sum_past f a i [] h = refl
-sum_past f a i (row ∷ rows) h = omega (arith, linear, other_apart f a i row (omega arith), sum_past f a (i + 1) rows (omega arith))
-
-pub sum_other : (f : ℕ → ArcRow → ℤ) (b a i : ℕ) (row : ArcRow) (rows : List ArcRow) → b ≡ i + a → slice_get rows a ≡ Some row → sum_arcs (other b f) i rows +ℤ f b row ≡ sum_arcs f i rows
-sum_other f b a i row [] s e = absurd (cc)
-sum_other f b zero i row (first ∷ rows) s e =
-    let here : f b row ≡ f i first = cc (add-zero i) in
-    omega (arith, linear, here, other_same f b i first (omega arith), sum_past f b (i + 1) rows (omega arith))
-sum_other f b (suc a) i row (first ∷ rows) s e =
-    omega (arith, linear, other_apart f b i first (omega arith), sum_other f b a (i + 1) row rows (omega arith) e)
 
 -- ---- the terms of one arc
 -- a term that is chosen by a test is in order where the chosen value is
@@ -76,17 +58,6 @@ other_out_below k m a x y n arcs h = sum_below k m (other a (leaving x n)) (othe
 
 other_in_below : (k m : ℤ) (a : ℕ) (x y : ℕ → ℤ) (n : ℕ) (arcs : List ArcRow) → EachBelow k m x y arcs → (k *ℤ sum_other_in a x n arcs) ≤ℤ (m *ℤ sum_other_in a y n arcs)
 other_in_below k m a x y n arcs h = sum_below k m (other a (entering x n)) (other a (entering y n)) 0 arcs (from_start k m _ _ arcs (λ j row e. unchosen_below k m (j == a) _ _ (entering_below k m x y n arcs h j row e)))
-
--- the arc's own term
-own_out : (a n : ℕ) (x : ℕ → ℤ) (row : ArcRow) (arcs : List ArcRow) → slice_get arcs a ≡ Some row → row.from ≡ n → sum_other_out a x n arcs +ℤ x a ≡ sum_out x n arcs
-own_out a n x row arcs e f =
-    let mine : leaving x n a row ≡ x a = ap (λ (b : Bool). cond b (x a) (pos 0)) (eq-eqb row.from n f) in
-    omega (arith, linear, mine, sum_other (leaving x n) a a 0 row arcs (omega arith) e)
-
-own_in : (a n : ℕ) (x : ℕ → ℤ) (row : ArcRow) (arcs : List ArcRow) → slice_get arcs a ≡ Some row → row.to ≡ n → sum_other_in a x n arcs +ℤ x a ≡ sum_in x n arcs
-own_in a n x row arcs e f =
-    let mine : entering x n a row ≡ x a = ap (λ (b : Bool). cond b (x a) (pos 0)) (eq-eqb row.to n f) in
-    omega (arith, linear, mine, sum_other (entering x n) a a 0 row arcs (omega arith) e)
 
 -- ---- a point of the box
 -- each flow lies between its ends

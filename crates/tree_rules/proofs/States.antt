@@ -1,6 +1,6 @@
 -- Listed choices that agree with a part state are in the states that it fixes, and among those that it allows.
 use Rattle.std.proofs.Common.{◌≡◌, ◌⊎◌, ℕ, zero, suc, inl, inr, refl, sym, ap, ◌∙◌, subst, arith, Bool, true, false, cond, IsTrue, List, [], ◌∷◌, map, slice_get, Option, Some, None}
-use Rattle.std.specs.List.{list_all, filter}
+use Rattle.std.specs.List.{filter}
 use Rattle.std.specs.Option.{option_or}
 use Rattle.std.proofs.lemmas.List.Folds.{list_all-append}
 use Rattle.std.proofs.lemmas.Option.{slice_get_within}
@@ -9,12 +9,10 @@ use Rattle.gas_model.specs.declared.rows.ArcKind.TheVariants.{Pipe, Short, Resis
 use Rattle.gas_model.specs.declared.rows.ArcRow.{ArcRow}
 use Rattle.gas_model.specs.declared.rows.ArcState.{ArcState}
 use Rattle.gas_model.specs.declared.rows.ArcState.TheVariants.{Opened, Shut, Active, Bypass}
-use Rattle.gas_model.specs.declared.rows.Allow.{Allow}
 use Rattle.gas_model.specs.declared.rows.Group.{Group}
 use Rattle.gas_model.specs.declared.rows.PartState.{PartState}
 use Rattle.gas_model.specs.Rows.{Network}
-use Rattle.gas_model.specs.Choices.{states_of, has_state, allows, words_if, words_for, IsListed, only, named_state, fixed_state}
-use Rattle.tree_rules.specs.Branches.{allowed_states}
+use Rattle.gas_model.specs.Choices.{states_of, has_state, allows, words_if, words_for, IsListed, only, named_state, words_allow, allowed_states, fixed_state}
 use Rattle.tree_rules.specs.Theorems.{Agrees}
 use Rattle.tree_rules.proofs.UnitSound.{both}
 use Rattle.tree_rules.proofs.Scaled.{and_from}
@@ -76,21 +74,18 @@ no_words (g ∷ groups) [] a h = refl
 no_words (g ∷ groups) (None ∷ some) a h = no_words groups some a (record { at = λ k j e. absurd (no_pick None some k j h e) })
 no_words (g ∷ groups) (Some i ∷ some) a h = let f : slice_get [] 0 ≡ Some i = h.at 0 i refl in absurd cc
 
-abbrev pub all_allow : ArcState → List Allow → Bool
-all_allow t words = list_all (λ word. allows word t) words
-
-words_fewer : (groups : List Group) (some : List (Option ℕ)) (picks : List ℕ) (a : ℕ) (t : ArcState) → Fewer some picks → IsTrue (all_allow t (words_for groups (map Some picks) a)) → IsTrue (all_allow t (words_for groups some a))
+words_fewer : (groups : List Group) (some : List (Option ℕ)) (picks : List ℕ) (a : ℕ) (t : ArcState) → Fewer some picks → IsTrue (words_allow t (words_for groups (map Some picks) a)) → IsTrue (words_allow t (words_for groups some a))
 words_fewer [] some picks a t h p = refl
 words_fewer (g ∷ groups) [] picks a t h p = refl
-words_fewer (g ∷ groups) (o ∷ some) [] a t h p = ap (all_allow t) (no_words (g ∷ groups) (o ∷ some) a h)
+words_fewer (g ∷ groups) (o ∷ some) [] a t h p = ap (words_allow t) (no_words (g ∷ groups) (o ∷ some) a h)
 words_fewer (g ∷ groups) (None ∷ some) (i ∷ picks) a t h p =
     let parts = list_all-append (λ word. allows word t) (words_if (slice_get g.decisions i) a) (words_for groups (map Some picks) a) in
     words_fewer groups some picks a t (fewer_rest None i some picks h) (both _ _ (sym parts ∙ p)).1
 words_fewer (g ∷ groups) (Some j ∷ some) (i ∷ picks) a t h p =
     let parts = list_all-append (λ word. allows word t) (words_if (slice_get g.decisions i) a) (words_for groups (map Some picks) a) in
-    let says = both (all_allow t (words_if (slice_get g.decisions i) a)) (all_allow t (words_for groups (map Some picks) a)) (sym parts ∙ p) in
+    let says = both (words_allow t (words_if (slice_get g.decisions i) a)) (words_allow t (words_for groups (map Some picks) a)) (sym parts ∙ p) in
     let same : Some i ≡ Some j = h.at 0 j refl in
-    let here : IsTrue (all_allow t (words_if (slice_get g.decisions j) a)) = subst (λ (k : ℕ). IsTrue (all_allow t (words_if (slice_get g.decisions k) a))) (let e : i ≡ j = cc in e) says.0 in
+    let here : IsTrue (words_allow t (words_if (slice_get g.decisions j) a)) = subst (λ (k : ℕ). IsTrue (words_allow t (words_if (slice_get g.decisions k) a))) (let e : i ≡ j = cc in e) says.0 in
     let later = words_fewer groups some picks a t (fewer_rest (Some j) i some picks h) says.1 in
     list_all-append (λ word. allows word t) (words_if (slice_get g.decisions j) a) (words_for groups some a) ∙ and_from _ _ here later
 
@@ -98,17 +93,17 @@ words_fewer (g ∷ groups) (Some j ∷ some) (i ∷ picks) a t h p =
 -- it is one of its kind, and all words of the picked decisions allow it
 pub record HasState (p : Network) (part : PartState) (a : ℕ) (row : ArcRow) (t : ArcState) : Type 0 where
   pub kind : IsTrue (has_state row.kind t)
-  pub words : IsTrue (all_allow t (words_for p.groups part.picks a))
+  pub words : IsTrue (words_allow t (words_for p.groups part.picks a))
 
 pub state_of : (p : Network) (part : PartState) (picks : List ℕ) (states : List ArcState) (a : ℕ) (row : ArcRow) → IsListed p picks states → Agrees part picks states → slice_get p.arcs a ≡ Some row
     → (t : ArcState) × (slice_get states a ≡ Some t) × HasState p part a row t
 state_of p part picks states a row listed agrees at =
     let found = get_some states a (omega (arith, listed.one_each, slice_get_within p.arcs a row at)) in
-    let may = both (has_state row.kind found.0) (all_allow found.0 (words_for p.groups (map Some picks) a)) (listed.allowed a row found.0 at found.1) in
+    let may = both (has_state row.kind found.0) (words_allow found.0 (words_for p.groups (map Some picks) a)) (listed.allowed a row found.0 at found.1) in
     (found.0, found.1, record { kind = may.0; words = words_fewer p.groups part.picks picks a found.0 (record { at = agrees.picked }) may.1 })
 
 pub one_allowed : (p : Network) (part : PartState) (a : ℕ) (row : ArcRow) (t : ArcState) → HasState p part a row t → IsOneOf t (allowed_states p part a row)
-one_allowed p part a row t h = one_filtered (λ state. all_allow state (words_for p.groups part.picks a)) (states_of row.kind) t (one_of_kind row.kind t h.kind) h.words
+one_allowed p part a row t h = one_filtered (λ state. words_allow state (words_for p.groups part.picks a)) (states_of row.kind) t (one_of_kind row.kind t h.kind) h.words
 
 either_is : {X : Type 0} (o q : Option X) (x : X) → option_or o q ≡ Some x → (o ≡ Some x) ⊎ (q ≡ Some x)
 either_is None q x e = inr e

@@ -19,7 +19,8 @@ use Rattle.gas_model.specs.Rows.{Network}
 use Rattle.gas_model.specs.Laws.{LawForm, form_of, meets_form}
 use Rattle.gas_model.specs.Points.{Point, state_at, meets_arc}
 use Rattle.gas_model.specs.Choices.{fixed_state}
-use Rattle.gas_model.specs.Boxes.{Bounds, BoxFits, no_ends, ends_of, is_in_box, is_var, is_empty, with_end, with_ends, tightened, numerator, IsBetween, Contains}
+use Rattle.gas_model.proofs.BoxFacts.{in_box, still_fits}
+use Rattle.gas_model.specs.Boxes.{Bounds, BoxFits, no_ends, ends_of, is_var, is_empty, with_end, with_ends, tightened, numerator, IsBetween, Contains}
 use Rattle.gas_model.specs.Within.{IsWithin}
 use Rattle.tree_cert.specs.declared.line.Rule.{Rule}
 use Rattle.tree_cert.specs.declared.line.Rule.TheVariants.{Balance}
@@ -97,15 +98,7 @@ changed K x b (Square n) e w h (Square m) k =
       | inr apart ↦ rw (get_or-set_other b.squares n m e no_ends apart) (w (Square m) (let t : nat_lt m (length b.squares) ≡ true = grind (arith, nat_tests) in t))
     ]
 
-pub still_fits : (p : Network) (b : Bounds) (v : Var) (e : Ends) → BoxFits p b → BoxFits p (with_ends b v e)
-still_fits p b (Flow a) e f = record { flows = length-set b.flows a e ∙ f.flows; squares = f.squares }
-still_fits p b (Square n) e f = record { flows = f.flows; squares = length-set b.squares n e ∙ f.squares }
-
 -- ---- the variables of a problem are those of its box
-pub in_box : (p : Network) (b : Bounds) (v : Var) → BoxFits p b → IsTrue (is_var p v) → IsTrue (is_in_box b v)
-in_box p b (Flow a) f t = grind (arith, nat_tests, f.flows)
-in_box p b (Square n) f t = grind (arith, nat_tests, f.squares)
-
 flow_at : (p : Network) (K : ℤ) (x : Point) (b : Bounds) (a : ℕ) (row : ArcRow) → BoxFits p b → Contains K b x → slice_get p.arcs a ≡ Some row → IsBetween K x.d (x.flow a) (ends_of b (Flow a))
 flow_at p K x b a row f w at = w (Flow a) (in_box p b (Flow a) f (let l = slice_get_within p.arcs a row at in let t : nat_lt a (length p.arcs) ≡ true = grind (arith, nat_tests) in t))
 

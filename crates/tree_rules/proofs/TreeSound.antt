@@ -15,9 +15,9 @@ use Rattle.gas_model.specs.declared.rows.Var.{Var}
 use Rattle.gas_model.specs.declared.rows.Var.TheVariants.{Flow, Square}
 use Rattle.gas_model.specs.Rows.{Network}
 use Rattle.gas_model.specs.Limits.{between}
-use Rattle.gas_model.specs.Choices.{IsListed, fresh_part}
+use Rattle.gas_model.specs.Choices.{IsListed, allowed_states, fresh_part}
 use Rattle.gas_model.specs.Curves.{square}
-use Rattle.gas_model.specs.Rulings.{pick_in}
+use Rattle.gas_model.specs.Rulings.{is_free, pick_in}
 use Rattle.gas_model.specs.Points.{Point, Meets, IsInfeasible}
 use Rattle.gas_model.specs.Boxes.{BoxFits, no_ends, ends_of, is_var, with_end, opening, flow_ends, square_ends, numerator, IsBetween, Contains}
 use Rattle.gas_model.specs.Within.{IsWithin}
@@ -29,12 +29,13 @@ use Rattle.tree_cert.specs.declared.line.Line.TheVariants as lines
 use Rattle.tree_cert.specs.Tree.{Branch, ByGroup, ByArc, ByHalves, Tree, IsClosed}
 use Rattle.tree_cert.specs.TreeRules.{Holds, Passes}
 use Rattle.tree_rules.specs.Rules.{PartBox, step_holds, stepped, after_step}
-use Rattle.tree_rules.specs.Branches.{Wait, Heads, Halves, with_pick, with_state, headed, decision_heads, group_heads, allowed_states, is_free, state_heads, arc_heads, after_branch, same_var, same_head, lies_inside, lower_half, upper_half, after_head, is_over, root_box, root_of, rules_of}
+use Rattle.tree_rules.specs.Branches.{Wait, Heads, Halves, with_pick, with_state, headed, decision_heads, group_heads, state_heads, arc_heads, after_branch, same_var, same_head, lies_inside, lower_half, upper_half, after_head, is_over, root_box, root_of, rules_of}
 use Rattle.tree_rules.specs.Theorems.{Agrees, TreesRefuteBoxes, TextsRefute}
 use Rattle.tree_rules.proofs.UnitSound.{both}
 use Rattle.tree_rules.proofs.CutSound.{get_some}
 use Rattle.tree_rules.proofs.States.{IsOneOf, state_of, one_allowed}
-use Rattle.tree_rules.proofs.StepSound.{Stands, Kept, step_keeps, closing_none, end_moved, still_fits, map_is}
+use Rattle.tree_rules.proofs.StepSound.{Stands, Kept, step_keeps, closing_none, end_moved, map_is}
+use Rattle.gas_model.proofs.BoxFacts.{still_fits}
 use Rattle.tree_rules.proofs.Induction.{LoseNothing, tree_leaves_none}
 
 -- ---- options behind tests

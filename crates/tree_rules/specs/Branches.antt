@@ -1,6 +1,6 @@
 -- The branches that are allowed at a box, and the children that they have; and all rules of a problem.
-use Rattle.std.specs.Prelude.{ℕ, ◌==◌, ℤ, pos, List, [], ◌∷◌, length, map, filter, is_none, is_some, Bool, true, false, not, ◌&&◌, if◌then◌else◌, int_lt, Option, Some, None, option_map, option_and_then, slice_get, slice_set}
-use Rattle.std.specs.List.{list_all, range_with_len}
+use Rattle.std.specs.Prelude.{ℕ, ◌==◌, ℤ, pos, List, [], ◌∷◌, length, map, is_some, Bool, true, false, not, ◌&&◌, if◌then◌else◌, int_lt, Option, Some, None, option_map, option_and_then, slice_get, slice_set}
+use Rattle.std.specs.List.{range_with_len}
 use Rattle.std.specs.Ordering.{int_eq}
 use Rattle.gas_model.specs.declared.rows.ArcRow.{ArcRow}
 use Rattle.gas_model.specs.declared.rows.ArcState.{ArcState}
@@ -11,8 +11,8 @@ use Rattle.gas_model.specs.declared.rows.PartState.{PartState}
 use Rattle.gas_model.specs.declared.rows.Var.{Var}
 use Rattle.gas_model.specs.declared.rows.Var.TheVariants.{Flow, Square}
 use Rattle.gas_model.specs.Rows.{Network}
-use Rattle.gas_model.specs.Choices.{states_of, allows, words_for, fixed_state, fresh_part}
-use Rattle.gas_model.specs.Rulings.{rulings_at, pick_in}
+use Rattle.gas_model.specs.Choices.{allowed_states, fresh_part}
+use Rattle.gas_model.specs.Rulings.{is_free, pick_in}
 use Rattle.gas_model.specs.Boxes.{ends_of, is_var, opening, tightened}
 use Rattle.tree_cert.specs.declared.line.Head.{Head}
 use Rattle.tree_cert.specs.declared.line.Head.TheVariants.{Take, State, Half}
@@ -50,14 +50,6 @@ decision_heads k g = map (Take k) (range_with_len 0 (length g.decisions))
 -- the children after `group k`, where the group isn't picked
 abbrev pub group_heads : Network → PartState → ℕ → Option (List Head)
 group_heads p part k = if is_some (pick_in part.picks k) then None else option_map (decision_heads k) (slice_get p.groups k)
-
--- the states of the arc a that the picked decisions allow, in the order of its kind
-abbrev pub allowed_states : Network → PartState → ℕ → ArcRow → List ArcState
-allowed_states p part a row = filter (λ state. list_all (λ word. allows word state) (words_for p.groups part.picks a)) (states_of row.kind)
-
--- the state of the arc a isn't fixed, and each group that has a word for it is picked
-abbrev pub is_free : Network → PartState → ℕ → ArcRow → Bool
-is_free p part a row = is_none (fixed_state p part a row) && list_all (λ r. is_some (pick_in part.picks r.group)) (rulings_at p.groups a)
 
 -- the children after `arc a`
 abbrev pub state_heads : Network → PartState → ℕ → ArcRow → Option (List Head)

@@ -4,18 +4,8 @@ use Rattle.std.specs.List.{list_all, list_any}
 use Rattle.std.specs.Option.{option_map_or}
 use Rattle.gas_model.specs.declared.rows.NodeRow.{NodeRow}
 use Rattle.gas_model.specs.declared.rows.ArcRow.{ArcRow}
-use Rattle.gas_model.specs.Points.{sum_arcs, leaving, entering, sum_out, sum_in}
-
--- f of all arcs but the arc a
-abbrev pub other : ℕ → (ℕ → ArcRow → ℤ) → ℕ → ArcRow → ℤ
-other a f i row = if i == a then pos 0 else f i row
-
--- the sum of x over the arcs that leave the node n, and over those that enter it, without the arc a
-abbrev pub sum_other_out : ℕ → (ℕ → ℤ) → ℕ → List ArcRow → ℤ
-sum_other_out a x n arcs = sum_arcs (other a (leaving x n)) 0 arcs
-
-abbrev pub sum_other_in : ℕ → (ℕ → ℤ) → ℕ → List ArcRow → ℤ
-sum_other_in a x n arcs = sum_arcs (other a (entering x n)) 0 arcs
+use Rattle.gas_model.specs.Points.{sum_out, sum_in, sum_other_out, sum_other_in}
+use Rattle.tree_cert.specs.Spelling.{ascends_after}
 
 -- The lower (`low`) or the upper end of the flow of the arc a, which leaves the node n, may become C. Of the arc i the
 -- ends are ql i and qh i.
@@ -38,11 +28,6 @@ takes_too_little node K ql qh n arcs = int_lt (sum_out qh n arcs -ℤ sum_in ql 
 
 abbrev pub balance_closing : NodeRow → ℤ → (ql qh : ℕ → ℤ) → ℕ → List ArcRow → Bool
 balance_closing node K ql qh n arcs = takes_too_much node K ql qh n arcs || takes_too_little node K ql qh n arcs
-
--- the numbers ascend strictly, and all are above n
-abbrev pub ascends_after : ℕ → List ℕ → Bool
-ascends_after n [] = true
-ascends_after n (m ∷ ms) = nat_lt n m && ascends_after m ms
 
 -- at least one node of the problem, strictly ascending
 abbrev pub are_cut_nodes : List NodeRow → List ℕ → Bool

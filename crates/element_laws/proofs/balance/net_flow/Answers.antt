@@ -1,10 +1,12 @@
-use Rattle.std.proofs.Common.{◌≡◌, ◌≤◌, ℕ, ap, subst, refl, arith, rules, ◌+◌, length, get_or, Some, to_z-of_z, to_z, ◌+ℤ◌, FitsSigned}
+use Rattle.std.proofs.Common.{◌≡◌, ◌≤◌, ℕ, ap, subst, refl, arith, rules, ◌+◌, ◌^◌, length, get_or, Some, to_z-of_z, to_z, ◌+ℤ◌, FitsSigned}
 use Rattle.std.specs.Prelude.{slice_get}
 use Rattle.std.specs.Int.{w128}
 use Rattle.std.proofs.lemmas.Option.{slice_get_read}
+use Rattle.integer_laws.specs.Sizes.{IsWithin}
 use Rattle.gas_model.specs.Near.{number_at}
-use Rattle.element_laws.proofs.NearFits.{flow_size}
-use Rattle.element_laws.proofs.NetFlows.{NetSums, arc_within, few_at, net_step, net_fits, net_whole, whole_rest}
+use Rattle.gas_model.proofs.LimitFacts.{flow_size}
+use Rattle.gas_model.proofs.NodeSums.{NetSums, arc_within, few_at, taken_size, net_step, net_whole, whole_rest}
+use Rattle.element_laws.proofs.NetFits.{net_fits}
 use Rattle.element_laws.proofs.balance.net_flow.Goals as goal
 
 pub bounds-arcs-arc : goal.bounds-arcs-arc
@@ -30,9 +32,12 @@ loop-arc-preserved c =
     let flow : FitsSigned w128 c.flow_at.result = search rules in
     let term : FitsSigned w128 c.taken_from-total.result = search rules in
     let term_is = simp (to_z-of_z, flow) at c.taken_from-total.ensures in
-    let next = net_step (number_at c.args.setting.now.flows) arcs c.args.node at k total c.taken_from-total.result c.flow_at.result row c.loop-arc.invariant c.loop-arc-test.true here c.flow_at.ensures.value (flow_size c.flow_at.result c.flow_at.ensures.limit) term_is in
+    let x = number_at c.args.setting.now.flows in
+    let size = flow_size c.flow_at.result c.flow_at.ensures.limit in
+    let small : IsWithin (10 ^ 12) c.taken_from-total.result = rw term_is (taken_size row c.args.node (10 ^ 12) c.flow_at.result c.flow_at.result size size) in
+    let next = net_step (10 ^ 12) x x arcs c.args.node at k total c.taken_from-total.result c.flow_at.result c.flow_at.result row c.loop-arc.invariant c.loop-arc-test.true here c.flow_at.ensures.value c.flow_at.ensures.value small term_is in
     let few : k + 1 ≤ 2000 = omega (arith, few_at arcs c.args.node at c.arcs_at-at.ensures.arcs, c.arcs_at-at.ensures.within.few_arcs) in
-    let fits : FitsSigned w128 (total +ℤ c.taken_from-total.result) = net_fits (number_at c.args.setting.now.flows) arcs c.args.node at (k + 1) (total +ℤ c.taken_from-total.result) next few in
+    let fits : FitsSigned w128 (total +ℤ c.taken_from-total.result) = net_fits x arcs c.args.node at (k + 1) (total +ℤ c.taken_from-total.result) next few in
     simp (to_z-of_z, term, fits) next
 
 pub returns : goal.returns
@@ -42,4 +47,4 @@ returns c =
     let x = number_at c.args.setting.now.flows in
     let total = to_z w128 c.loop-arc.total-bits in
     let done : c.loop-arc.arc-index ≡ length at = omega arith in
-    net_whole x arcs c.args.node at total (whole_rest arcs c.arcs_at-at.ensures.within.apart) c.arcs_at-at.ensures.arcs (subst (λ (k : ℕ). NetSums x arcs c.args.node at k total) done c.loop-arc.invariant)
+    net_whole (10 ^ 12) x x arcs c.args.node at total (whole_rest arcs c.arcs_at-at.ensures.within.apart) c.arcs_at-at.ensures.arcs (subst (λ (k : ℕ). NetSums (10 ^ 12) x x arcs c.args.node at k total) done c.loop-arc.invariant)

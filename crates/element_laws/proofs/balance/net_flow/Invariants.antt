@@ -1,6 +1,7 @@
+use Rattle.std.proofs.Common.{◌^◌}
 use Rattle.gas_model.specs.Near.{number_at}
-use Rattle.element_laws.proofs.NetFlows.{NetSums}
+use Rattle.gas_model.proofs.NodeSums.{NetSums}
 use Rattle.element_laws.proofs.balance.net_flow.Given as goal
 
 abbrev pub invariant-loop-arc : goal.invariant-loop-arc
-invariant-loop-arc l = NetSums (number_at l.setting.flows) l.p.arcs l.node l.at l.arc-index l.total
+invariant-loop-arc l = NetSums (10 ^ 12) (number_at l.setting.flows) (number_at l.setting.flows) l.p.arcs l.node l.at l.arc-index l.total

@@ -1,0 +1,3 @@
+pub mod EndFits
+pub mod HeldEnds
+pub mod EmptyVars
