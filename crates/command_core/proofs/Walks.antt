@@ -112,7 +112,7 @@ ends_behind gates more before now (Some stop.NoMemory) e h = tt
 pub counts_same : (x : Outside) → CountsOn x x
 counts_same x = record { reads = λ n. omega arith; writes = omega arith }
 
-same_files : (before now : Outside) → SameFiles before now → before.files ≡ now.files
+pub same_files : (before now : Outside) → SameFiles before now → before.files ≡ now.files
 same_files before now h = fun_ext (λ n. sym (h n))
 
 -- fine gates, and then more gates
@@ -130,4 +130,18 @@ reads_then tells exact gates more before mid now stopped r s = record {
   unread = λ x calm n. s.unread x calm n ∙ r.unread x (λ h. cc) n;
   unwritten = λ x. s.unwritten x ∙ r.unwritten x;
   counts = counts_on before mid now r.counts s.counts;
+}
+
+-- fine gates, and then want of memory
+pub reads_want : (tells exact : Type 0) (gates : List Gate) (before now : Outside) → Reads tells exact gates before now None → Reads tells exact gates before now (Some stop.NoMemory)
+reads_want tells exact gates before now r = record {
+  ended = λ t. tt;
+  cause = λ e. absurd (cc);
+  held = tt;
+  files = r.files;
+  said = r.said;
+  marks = r.marks;
+  unread = λ x calm. r.unread x (λ e. cc);
+  unwritten = r.unwritten;
+  counts = r.counts;
 }

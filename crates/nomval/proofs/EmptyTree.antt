@@ -1,6 +1,6 @@
 -- The tree that closes the opening box by an empty variable passes the checker.
-use Rattle.std.proofs.Common.{◌≡◌, ◌&&◌, ℕ, ◌<◌, Bool, true, List, length, refl, ap, arith, pos, int_lt}
-use Rattle.std.specs.Prelude.{IsTrue}
+use Rattle.std.proofs.Common.{◌≡◌, ◌&&◌, ℕ, ◌<◌, Bool, true, List, length, refl, ap, sym, ◌∙◌, arith, pos, int_lt}
+use Rattle.std.specs.Prelude.{IsTrue, nat_lt}
 use Rattle.std.proofs.lemmas.List.{length-map}
 use Rattle.gas_model.specs.declared.rows.Var.{Var}
 use Rattle.gas_model.specs.declared.rows.Var.TheVariants.{Flow, Square}
@@ -18,8 +18,8 @@ use Rattle.integer_laws.proofs.Ring.{linear}
 
 -- a variable of the opening box is one of the problem
 is_one : (p : Network) (v : Var) → IsTrue (is_in_box (opening (pos 1) p) v) → is_var p v ≡ true
-is_one p (Flow a) h = rw (length-map (flow_ends (pos 1)) p.arcs) at h
-is_one p (Square n) h = rw (length-map (square_ends (pos 1)) p.nodes) at h
+is_one p (Flow a) h = sym (ap (nat_lt a) (length-map p.arcs (flow_ends (pos 1)))) ∙ h
+is_one p (Square n) h = sym (ap (nat_lt n) (length-map p.nodes (square_ends (pos 1)))) ∙ h
 
 pub empty_tree_passes : (p : Network) (v : Var) (text : List ℕ) → LeavesNone (opening (pos 1) p) v → AreLines text (empty_tree v) → PassesWholeText (rules_of p) text
 empty_tree_passes p v text none written =

@@ -64,26 +64,26 @@ module _ (tells exact : Type 0) (words : Words) (before now : Outside) (status :
   pub own : IsAnswer status → ForCommand words (λ c. (meaning c).may status)
   own is = let f = of_answer is in (f.0, f.1, f.2.may is)
 
-  pub carried : tells → status ≡ ends.Accepted → HasCarried words before now
-  carried t e = let f = as_of ends.Accepted e tt in carried_at words f.0 before now f.1 (f.2.may tt) (conclusions.answered_of (meaning f.0) before now ends.Accepted tt (f.2.case t))
+  pub accepted : tells → status ≡ ends.Accepted → HasCarried words before now
+  accepted t e = let f = as_of ends.Accepted e tt in carried_at words f.0 before now f.1 (f.2.may tt) (conclusions.answered_of (meaning f.0) before now ends.Accepted tt (f.2.case t))
 
-  pub refuted : tells → status ≡ ends.Rejected → HasRefuted words before now
-  refuted t e = let f = as_of ends.Rejected e tt in refuted_at words f.0 before now f.1 (f.2.may tt) (conclusions.answered_of (meaning f.0) before now ends.Rejected tt (f.2.case t))
+  pub rejected : tells → status ≡ ends.Rejected → HasRefuted words before now
+  rejected t e = let f = as_of ends.Rejected e tt in refuted_at words f.0 before now f.1 (f.2.may tt) (conclusions.answered_of (meaning f.0) before now ends.Rejected tt (f.2.case t))
 
-  pub left_open : tells → status ≡ ends.Unfinished → LeavesOpen words before now
-  left_open t e = let f = as_of ends.Unfinished e tt in open_at words f.0 before now f.1 (f.2.may tt) (conclusions.answered_of (meaning f.0) before now ends.Unfinished tt (f.2.case t))
+  pub unfinished : tells → status ≡ ends.Unfinished → LeavesOpen words before now
+  unfinished t e = let f = as_of ends.Unfinished e tt in open_at words f.0 before now f.1 (f.2.may tt) (conclusions.answered_of (meaning f.0) before now ends.Unfinished tt (f.2.case t))
 
   pub kept : tells → status ≡ ends.Kept → IsKept words before now
   kept t e = let f = as_of ends.Kept e tt in kept_at words f.0 before now f.1 (f.2.may tt) (conclusions.answered_of (meaning f.0) before now ends.Kept tt (f.2.case t))
 
-  pub passed : tells → status ≡ ends.Passes → HasPassed words before now
-  passed t e = let f = as_of ends.Passes e tt in passed_at words f.0 before now f.1 (f.2.may tt) (conclusions.answered_of (meaning f.0) before now ends.Passes tt (f.2.case t))
+  pub passes : tells → status ≡ ends.Passes → HasPassed words before now
+  passes t e = let f = as_of ends.Passes e tt in passed_at words f.0 before now f.1 (f.2.may tt) (conclusions.answered_of (meaning f.0) before now ends.Passes tt (f.2.case t))
 
   pub broken : tells → (law : Broken) → status ≡ ends.Broken law → IsBroken law words before now
   broken t law e = let f = as_of (ends.Broken law) e tt in broken_at law words f.0 before now f.1 (f.2.may tt) (conclusions.answered_of (meaning f.0) before now (ends.Broken law) tt (f.2.case t))
 
-  pub not_passed : tells → (fault : NotFault) → status ≡ ends.NotRefutation fault → HasNotPassed fault words before now
-  not_passed t fault e = let f = as_of (ends.NotRefutation fault) e tt in not_passed_at fault words f.0 before now f.1 (f.2.may tt) (conclusions.answered_of (meaning f.0) before now (ends.NotRefutation fault) tt (f.2.case t))
+  pub not_refutation : tells → (fault : NotFault) → status ≡ ends.NotRefutation fault → HasNotPassed fault words before now
+  not_refutation t fault e = let f = as_of (ends.NotRefutation fault) e tt in not_passed_at fault words f.0 before now f.1 (f.2.may tt) (conclusions.answered_of (meaning f.0) before now (ends.NotRefutation fault) tt (f.2.case t))
 
   misused_at : (at : ℕ) → status ≡ ends.Usage at → plain words ≡ Err at
   misused_at at is = elim ran [

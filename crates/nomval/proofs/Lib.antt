@@ -10,3 +10,4 @@ pub mod Checking
 pub mod Places
 pub mod Answering
 pub mod Laws
+pub mod NeverRises

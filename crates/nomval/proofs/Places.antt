@@ -8,6 +8,15 @@ use Rattle.nomval.specs.declared.words.Choice.TheVariants.{Tol}
 use Rattle.nomval.specs.Sources.{Origin, flat}
 use Rattle.nomval.specs.Plain.{Words, Options, Plain, solve, replay, check, ◌>>=◌, is_file_word, file_at, no_more, option_in, give, options_at, none_given, tolerance_of, flat_source, flat_then, solve_words, replay_words, check_words, plain, BeginPlain, IsPlace}
 
+abbrev err : (X : Type 0) → ℕ → Result X ℕ
+err X n = Err n
+
+abbrev with_tol : ℕ → Result Options ℕ
+with_tol tol = Ok (record { tol = Some tol })
+
+abbrev with_file : List ℕ → Words → Result (Origin × Words) ℕ
+with_file name words = Ok (flat name, words)
+
 -- these words leave the form that f reads at word `at`, where the first of them is word n
 record IsStop {X : Type 0} (n : ℕ) (f : Words → Result X ℕ) (words : Words) (at : ℕ) : Type 0 where
   front : Words
@@ -102,20 +111,23 @@ map_stops {X} {Y} n f g s = record {
 a_file : List ℕ
 a_file = 97 ∷ []
 
-wrong_first : {X : Type 0} (n at : ℕ) → (Err n : Result X ℕ) ≡ Err at → at ≡ n
+wrong_first : {X : Type 0} (n at : ℕ) → err X n ≡ Err at → at ≡ n
 wrong_first n at e = let same : n ≡ at = cc in sym same
 
 module _ {X : Type 0} (n : ℕ) (next : List ℕ → Words → Result X ℕ) (s : (name : List ℕ) → Stops (n + 1) (next name)) where
+  then_next : Result (List ℕ × Words) ℕ → Result X ℕ
+  then_next r = r >>= λ x. next x.0 x.1
+
   file_then : Words → Result X ℕ
   file_then ws = file_at n ws >>= λ x. next x.0 x.1
 
   reads_on : (word : List ℕ) (tail : Words) → is_file_word word ≡ true → file_then (word ∷ tail) ≡ next word tail
-  unfolding file_then
-  reads_on word tail e = ap (λ b. (cond b (Ok (word, tail)) (Err n) : Result (List ℕ × Words) ℕ) >>= λ x. next x.0 x.1) e
+  unfolding file_then then_next
+  reads_on word tail e = ap (λ b. then_next (cond b (Ok (word, tail)) (Err n))) e
 
   no_file : (word : List ℕ) (tail : Words) → is_file_word word ≡ false → file_then (word ∷ tail) ≡ Err n
-  unfolding file_then
-  no_file word tail e = ap (λ b. (cond b (Ok (word, tail)) (Err n) : Result (List ℕ × Words) ℕ) >>= λ x. next x.0 x.1) e
+  unfolding file_then then_next
+  no_file word tail e = ap (λ b. then_next (cond b (Ok (word, tail)) (Err n))) e
 
   reads_some : file_then (a_file ∷ (s a_file).words) ≡ Ok (s a_file).read
   unfolding file_then a_file
@@ -132,7 +144,7 @@ module _ {X : Type 0} (n : ℕ) (next : List ℕ → Words → Result X ℕ) (s 
           (λ word later tail x is h. let same : w ≡ word = cc in let bad : Err n ≡ Ok x = sym (no_file word tail (subst (λ y. is_file_word y ≡ false) same t)) ∙ h in cc)
 
   -- a word that names a file, and others
-  pub file_stops : Stops n (λ ws. file_at n ws >>= λ x. next x.0 x.1)
+  file_stops : Stops n (λ ws. file_at n ws >>= λ x. next x.0 x.1)
   unfolding file_then
   file_stops = record { words = a_file ∷ (s a_file).words; read = (s a_file).read; reads = reads_some; stop = file_stop }
 
@@ -148,7 +160,7 @@ end_stops n = record { words = []; read = tt; reads = refl; stop = stop }
 option_place : (n : ℕ) (given : Options) (word : List ℕ) (at : ℕ) → option_in n given word ≡ Err at → at ≡ n
 option_place n given word at e = by (is_none given.tol && bytes_eq word (codes "--tol")) e
   where
-    by : (b : Bool) → (cond b (Ok Tol) (Err n) : Result Choice ℕ) ≡ Err at → at ≡ n
+    by : (b : Bool) → cond b (Ok Tol) (err Choice n) ≡ Err at → at ≡ n
     by true h = absurd (cc)
     by false h = let same : n ≡ at = cc in sym same
 
@@ -157,7 +169,7 @@ number_place : (n : ℕ) (option : Choice) (given : Options) (number : Option �
 number_place n Tol given None at e = let same : n ≡ at = cc in sym same
 number_place n Tol given (Some tol) at e = by (nat_le tol 10000000000000000) e
   where
-    by : (b : Bool) → ((cond b (Ok tol) (Err n) : Result ℕ ℕ) >>= λ t. (Ok (record { tol = Some t }) : Result Options ℕ)) ≡ Err at → at ≡ n
+    by : (b : Bool) → (cond b (Ok tol) (err ℕ n) >>= λ t. with_tol t) ≡ Err at → at ≡ n
     by true h = absurd (cc)
     by false h = let same : n ≡ at = cc in sym same
 
@@ -170,13 +182,13 @@ unfolding zero_word
 takes_zero n Tol given = (record { tol = Some 0 }, refl)
 
 option_other : (n : ℕ) (given : Options) (word : List ℕ) (words : Words) (at : ℕ) (x : Options) → option_in n given word ≡ Err at → options_at n given (word ∷ words) ≡ Ok x → ⊥
-option_other n given word [] at x e h = let bad : Err at ≡ Ok x = sym (ap (λ (r : Result Choice ℕ). r >>= λ option. (Err (n + 1) : Result Options ℕ)) e) ∙ h in cc
+option_other n given word [] at x e h = let bad : Err at ≡ Ok x = sym (ap (λ (r : Result Choice ℕ). r >>= λ option. err Options (n + 1)) e) ∙ h in cc
 option_other n given word (number ∷ words) at x e h =
     let bad : Err at ≡ Ok x = sym (ap (λ (r : Result Choice ℕ). r >>= λ option. give (n + 1) option given (natural number) >>= λ more. options_at (n + 2) more words) e) ∙ h in cc
 
 -- a word that isn't an option here
 module _ (n : ℕ) (given : Options) (w : List ℕ) (ws : Words) (at k : ℕ) (t : option_in n given w ≡ Err k) where
-  no_option : Err k ≡ Err at → IsStop n (options_at n given) (w ∷ ws) at
+  no_option : err Options k ≡ Err at → IsStop n (options_at n given) (w ∷ ws) at
   no_option e =
       let same : k ≡ at = cc in
       first_stop n (options_at n given) (w ∷ ws) at [] given (sym same ∙ option_place n given w k t) refl
@@ -184,7 +196,7 @@ module _ (n : ℕ) (given : Options) (w : List ℕ) (ws : Words) (at k : ℕ) (t
 
 -- an option, and its number
 module _ (n : ℕ) (given : Options) (w : List ℕ) (option : Choice) (t : option_in n given w ≡ Ok option) where
-  given_on : (number : List ℕ) (tail : Words) (r : Result Options ℕ) → give (n + 1) option given (natural number) ≡ r
+  pub given_on : (number : List ℕ) (tail : Words) (r : Result Options ℕ) → give (n + 1) option given (natural number) ≡ r
       → options_at n given (w ∷ number ∷ tail) ≡ (r >>= λ more. options_at (n + 2) more tail)
   given_on number tail r u =
       ap (λ (x : Result Choice ℕ). x >>= λ o. give (n + 1) o given (natural number) >>= λ more. options_at (n + 2) more tail) t
@@ -202,7 +214,7 @@ module _ (n : ℕ) (given : Options) (w : List ℕ) (option : Choice) (t : optio
     front = w ∷ [];
     rest = [];
     parts = refl;
-    place = (let same : Err (n + 1) ≡ Err at = sym (ap (λ (x : Result Choice ℕ). x >>= λ o. (Err (n + 1) : Result Options ℕ)) t) ∙ e in let k : n + 1 ≡ at = cc in sym k);
+    place = (let same : Err (n + 1) ≡ Err at = sym (ap (λ (x : Result Choice ℕ). x >>= λ o. err Options (n + 1)) t) ∙ e in let k : n + 1 ≡ at = cc in sym k);
     more = zero_word ∷ [];
     read = zero_given;
     begins = with_zero;
@@ -237,9 +249,15 @@ module _ (n : ℕ) (given : Options) (w : List ℕ) (option : Choice) (t : optio
     no_later = λ word later tail x is h. s.no_later word later tail x is (sym (given_on number (s.front ++ word ∷ tail) (Ok next) u) ∙ h);
   }
 
+-- the options that follow an option and its number
+pub options_step : (n : ℕ) (given : Options) (words : Words) (w number : List ℕ) (tail : Words) (option : Choice) (more : Options) (r : Result Options ℕ) → words ≡ w ∷ number ∷ tail
+    → option_in n given w ≡ Ok option → give (n + 1) option given (natural number) ≡ Ok more → r ≡ options_at (n + 2) more tail → r ≡ options_at n given words
+options_step n given words w number tail option more r same t u e =
+    e ∙ sym (given_on n given w option t number tail (Ok more) u) ∙ ap (options_at n given) (sym same)
+
 one_option : (n : ℕ) (given : Options) (w : List ℕ) (at : ℕ) (r : Result Choice ℕ) → option_in n given w ≡ r → options_at n given (w ∷ []) ≡ Err at
     → IsStop n (options_at n given) (w ∷ []) at
-one_option n given w at (Err k) t e = no_option n given w [] at k t (sym (ap (λ (x : Result Choice ℕ). x >>= λ o. (Err (n + 1) : Result Options ℕ)) t) ∙ e)
+one_option n given w at (Err k) t e = no_option n given w [] at k t (sym (ap (λ (x : Result Choice ℕ). x >>= λ o. err Options (n + 1)) t) ∙ e)
 one_option n given w at (Ok option) t e = no_number n given w option t at e
 
 numbered : (n : ℕ) (given : Options) (w number : List ℕ) (ws : Words) (at : ℕ) (option : Choice) (r : Result Options ℕ) → option_in n given w ≡ Ok option
@@ -282,7 +300,7 @@ flat_stops : (next : ℕ → Origin → Words → Result Plain ℕ) → ((origin
 flat_stops next s = same_stops 1 (flat_then next) (λ ws. file_at 1 ws >>= λ x. next 2 (flat x.0) x.1) (λ ws. by (file_at 1 ws))
     (file_stops 1 (λ name ws. next 2 (flat name) ws) (λ name. s (flat name)))
   where
-    by : (r : Result (List ℕ × Words) ℕ) → ((r >>= λ file. (Ok (flat file.0, file.1) : Result (Origin × Words) ℕ)) >>= λ begun. next 2 begun.0 begun.1) ≡ (r >>= λ x. next 2 (flat x.0) x.1)
+    by : (r : Result (List ℕ × Words) ℕ) → ((r >>= λ file. with_file file.0 file.1) >>= λ begun. next 2 begun.0 begun.1) ≡ (r >>= λ x. next 2 (flat x.0) x.1)
     by (Ok x) = refl
     by (Err n) = refl
 

@@ -1,19 +1,27 @@
 -- What `replay` finds means what it is to mean.
 use Rattle.std.proofs.Common.{◌≡◌, ◌∙◌, ◌&&◌, Bool, sym, ap, subst, refl, ℕ, List, [], ◌∷◌, ◌++◌, length, pos}
-use Rattle.std.specs.Prelude.{true, false}
+use Rattle.std.specs.Prelude.{true, false, Option, None, Some, Result, Ok, Err, IfOk}
 use Rattle.std.specs.List.{list_all}
 use Rattle.gas_model.specs.declared.rows.Setting.{Setting}
+use Rattle.gas_model.specs.declared.collections.NoMemory.{NoMemory}
+use Rattle.gas_model.specs.Near.{IsNear}
 use Rattle.gas_model.specs.Rows.{Network}
+use Rattle.gas_desk.specs.Outside.{Outside, SameFiles}
 use Rattle.element_laws.specs.declared.broken.Broken.{Broken}
-use Rattle.element_laws.specs.FirstBroken.{IsFirstRefused}
+use Rattle.element_laws.specs.FirstBroken.{IsFirstBroken, IsFirstRefused}
 use Rattle.command_core.specs.declared.form.Done.{Done}
 use Rattle.command_core.specs.declared.status.Status.{Status}
 use Rattle.command_core.specs.declared.status.Status.TheVariants as ends
-use Rattle.command_core.specs.Gates.{Files, stands}
+use Rattle.command_core.specs.declared.status.InputFile.TheVariants.{SettingFile}
+use Rattle.command_core.specs.declared.status.Stop.{Stop}
+use Rattle.command_core.specs.Gates.{Files, Reads, file_is, gate_of, standing, stands}
 use Rattle.command_core.specs.Meanings.{Does, Texts, has_text}
 use Rattle.command_core.specs.Stops.{HoldsNoWant, IsAnswer, MakesFile, MakesNoFile}
-use Rattle.nomval.specs.Replay.{ReplayIsDue, replay_may, replay_meaning, replay_says, setting_among, setting_is}
-use Rattle.nomval.specs.Sources.{Origin, problem_is}
+use Rattle.nomval.specs.Named.{id_of}
+use Rattle.command_core.proofs.Parsing.{gate_alike}
+use Rattle.command_core.proofs.Walks.{reads_then, same_files}
+use Rattle.nomval.specs.Replay.{ReplayIsDue, replay_may, replay_meaning, replay_says, setting_among, setting_for, setting_gate, setting_is}
+use Rattle.nomval.specs.Sources.{Origin, problem_gates, problem_is}
 
 passed_first : (test : Broken → Bool) (x : Broken) (xs : List Broken) → list_all test (x ∷ xs) ≡ true → (test x ≡ true) × (list_all test xs ≡ true)
 passed_first test x xs e = by (test x) refl e
@@ -33,6 +41,15 @@ first_alone test (x ∷ xs) (y ∷ ys) a b later last e p q s t =
 
 one_refused : (test : Broken → Bool) (laws : List Broken) (a b : Broken) → IsFirstRefused test laws a → IsFirstRefused test laws b → a ≡ b
 one_refused test laws a b h i = first_alone test h.earlier i.earlier a b h.later i.later (sym h.order ∙ i.order) h.kept i.kept h.broken i.broken
+
+-- a law is broken first
+pub broken_says : (tol : ℕ) (p : Network) (setting : Setting) (law : Broken) (found : Result Done NoMemory) → IsFirstBroken p (pos tol) setting law → (IsNear p (pos tol) setting → ⊥)
+    → IfOk found (λ done. done.status ≡ ends.Broken law) → IfOk found (λ done. done.note ≡ id_of p law) → IfOk found (λ done. done.texts ≡ [])
+    → IfOk found (λ done. replay_says tol p setting done.status done.note done.texts)
+broken_says tol p setting law (Err e) first not_near status note texts = tt
+broken_says tol p setting law (Ok done) first not_near status note texts =
+    subst (λ s. replay_says tol p setting s done.note done.texts) (sym status)
+    (record { holds = record { first = first; not_near = not_near }; noted = note; no_out = texts })
 
 module _ (tol : ℕ) (p : Network) (setting : Setting) where
   is_answer : (s : Status) (note : List ℕ) (texts : Texts) → replay_says tol p setting s note texts → IsAnswer s
@@ -97,3 +114,21 @@ replays_does tells origin name tol files p setting done is setting_stands says =
       due = λ t s d. due origin name tol files p setting done s (is t) (setting_stands t) says d;
       fits = sym (ap length none);
     }
+
+-- the setting's file, where the problem's files stand for this problem
+setting_here : (origin : Origin) (name : List ℕ) (p : Network) (files : Files) → problem_is origin files ≡ stands p → file_is (setting_for p) (files name) ≡ setting_is origin name files
+setting_here origin name p files e = sym (ap (λ x. setting_among x (files name)) e)
+
+pub setting_before : (origin : Origin) (name : List ℕ) (p : Network) (s : Setting) (before mid : Outside) → SameFiles before mid → problem_is origin before.files ≡ stands p
+    → file_is (setting_for p) (mid.files name) ≡ stands s → setting_is origin name before.files ≡ stands s
+setting_before origin name p s before mid same e h = sym (setting_here origin name p before.files e) ∙ ap (file_is (setting_for p)) (sym (same name)) ∙ h
+
+-- the problem was read, and then the setting's file
+pub setting_reads : (tells exact : Type 0) (origin : Origin) (name : List ℕ) (p : Network) (before mid now : Outside) (stopped : Option Stop)
+    → Reads tells exact (problem_gates origin) before mid None → (tells → problem_is origin before.files ≡ stands p)
+    → Reads tells exact (gate_of SettingFile (setting_for p) name ∷ []) mid now stopped
+    → Reads tells exact (problem_gates origin ++ setting_gate origin name ∷ []) before now stopped
+setting_reads tells exact origin name p before mid now stopped r is s =
+    reads_then tells exact (problem_gates origin) (setting_gate origin name ∷ []) before mid now stopped r
+    (gate_alike tells exact SettingFile (Some name) (λ files. standing (file_is (setting_for p) (files name))) (λ files. standing (setting_is origin name files)) mid now stopped
+    (λ t. ap standing (setting_here origin name p mid.files (ap (problem_is origin) (sym (same_files before mid (r.files t))) ∙ is t))) s)

@@ -4,7 +4,8 @@ ghost use Rattle.gas_model.specs.Near.{IsNear};
 ghost use Rattle.box_core.specs.Empty.{LeavesNone};
 ghost use Rattle.gas_model.specs.Boxes.{opening};
 ghost use Rattle.setting_text.specs.Writing.{setting_text};
-ghost use Rattle.nomval.specs.Solve.{IsFound, first_shut};
+ghost use Rattle.tree_cert.specs.Spelling.{AreLines};
+ghost use Rattle.nomval.specs.Solve.{IsFound, empty_tree, first_shut};
 ghost use Rattle.nomval.specs.Tolerances.{most_tolerance};
 ghost use Rattle.nomval.specs.Zero.{zero_setting};
 
@@ -55,14 +56,21 @@ fn stop(fault: TreeFault) -> Result<Answer, NoMemory>
     }
 }
 
+// The text of the tree that closes the opening box by an empty variable.
+fn write_empty_tree(alloc: Global, var: Var) -> Result<Bytes, NoMemory>
+    ensures { IfOk result (λ text. AreLines text (empty_tree var)) }
+{
+    let lines = [Line::First, Line::Close(Closing::Empty(var)), Line::End];
+    write_tree(alloc, &lines)
+}
+
 // The tree that closes the opening box by an empty variable, once the checker passed it.
 fn refute(alloc: Global, p: &Problem, var: Var) -> Result<Answer, NoMemory>
     requires first { first_shut p.now ≡ Some var }
     requires empty { LeavesNone (opening (pos 1) p.now) var }
     ensures { (tol : ℕ) → IfOk result (IsFound tol p.now) }
 {
-    let lines = [Line::First, Line::Close(Closing::Empty(var)), Line::End];
-    let text = write_tree(alloc, &lines)?;
+    let text = write_empty_tree(alloc, var)?;
     match check_tree(alloc, p, text.as_slice()) {
         Ok(Verdict::Refutes) => Ok(Answer::Refuted(text)),
         // This never comes: the tree passes, as the contract shows.

@@ -80,19 +80,26 @@ fn id_of(p: &Problem, law: Broken) -> &str
     }
 }
 
+// The setting breaks this law, which is named by its arc's or node's id.
+fn broken(alloc: Global, p: &Problem, law: Broken) -> Result<Done, NoMemory>
+    ensures status { IfOk result (λ done. done.status ≡ Status.Broken law) }
+    ensures note { IfOk result (λ done. done.note ≡ id_of p.now law) }
+    ensures texts { IfOk result (λ done. done.texts ≡ []) }
+{
+    let mut note = Bytes::new(alloc);
+    note.append(id_of(p, law).as_bytes())?;
+    Ok(Done::said(alloc, Status::Broken(law), note))
+}
+
 // Whether the setting carries the problem, or the first law that it breaks.
 fn judge(alloc: Global, p: &Problem, setting: &Setting, tol: u64) -> Result<Done, NoMemory>
     requires fits { SettingFits p.now setting.now }
     requires limit { tol ≤ most_tolerance }
     ensures { IfOk result (λ done. replay_says tol p.now setting.now done.status done.note done.texts) }
 {
-    let mut note = Bytes::new(alloc);
     match first_broken(p, setting, tol as i128) {
-        None => Ok(Done::said(alloc, Status::Kept, note)),
-        Some(law) => {
-            note.append(id_of(p, law).as_bytes())?;
-            Ok(Done::said(alloc, Status::Broken(law), note))
-        }
+        None => Ok(Done::said(alloc, Status::Kept, Bytes::new(alloc))),
+        Some(law) => broken(alloc, p, law),
     }
 }
 

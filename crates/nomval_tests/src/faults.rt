@@ -18,7 +18,15 @@ fn a_fault_of_reading_is_said(rt: HostRuntime) -> Result<(), Fail> {
     // There is no setting of this name.
     let files = one_file(alloc, flat(alloc, "node a 0 9 0 0\n")?)?;
     let mut desk = desk_with(alloc, files, &[])?;
-    assert!(rt; ends(alloc, &mut desk, &["replay-flat", "p", "s"], 66, "read fault\n"));
+    assert!(rt;
+        ends(
+            alloc,
+            &mut desk,
+            &["replay-flat", "p", "s"],
+            66,
+            "read fault\n"
+        )
+    );
     Ok(())
 }
 

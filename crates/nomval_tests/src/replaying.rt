@@ -138,6 +138,15 @@ fn a_small_network_is_replayed(rt: HostRuntime) -> Result<(), Fail> {
     // The decision that turns the station off doesn't leave it active.
     let off =
         "{\"arcs\":[[\"pipe_1\",\"open\",100000000],[\"compressorStation_1\",\"active\",100000000],[\"pipe_2\",\"open\",100000000]],\"decisions\":[[\"group_1\",\"off\"]],\"nodes\":[[\"source_1\",26000000000000],[\"innode_1\",22000000000000],[\"innode_2\",44075000000000],[\"sink_1\",40075000000000]]}";
-    assert!(rt; replays(alloc, lines, off, "0", 3, "broken choice compressorStation_1\n")?);
+    assert!(rt;
+        replays(
+            alloc,
+            lines,
+            off,
+            "0",
+            3,
+            "broken choice compressorStation_1\n"
+        )?
+    );
     Ok(())
 }

@@ -74,7 +74,15 @@ fn the_tree_of_a_rejection_passes(rt: HostRuntime) -> Result<(), Fail> {
     let lines = "node a 6 5 0 0\nnode b 0 9 0 0\npipe p a b 1 -1 1 1 1\n";
     let mut desk = problem_desk(alloc, lines)?;
     assert!(rt; ends(alloc, &mut desk, &WORDS, 1, "rejected\n"));
-    assert!(rt; ends(alloc, &mut desk, &["check-flat", "p", "o"], 0, "rejected\npasses\n"));
+    assert!(rt;
+        ends(
+            alloc,
+            &mut desk,
+            &["check-flat", "p", "o"],
+            0,
+            "rejected\npasses\n"
+        )
+    );
     Ok(())
 }
 

@@ -5,13 +5,13 @@ pub returns : goal.returns
 returns g c =
     let ran = c.carry_out.ensures in
     record {
-      accepted = laws.carried _ _ _ _ _ _ ran;
-      rejected = laws.refuted _ _ _ _ _ _ ran;
-      unfinished = laws.left_open _ _ _ _ _ _ ran;
+      accepted = laws.accepted _ _ _ _ _ _ ran;
+      rejected = laws.rejected _ _ _ _ _ _ ran;
+      unfinished = laws.unfinished _ _ _ _ _ _ ran;
       kept = laws.kept _ _ _ _ _ _ ran;
       broken = laws.broken _ _ _ _ _ _ ran;
-      passes = laws.passed _ _ _ _ _ _ ran;
-      not_refutation = laws.not_passed _ _ _ _ _ _ ran;
+      passes = laws.passes _ _ _ _ _ _ ran;
+      not_refutation = laws.not_refutation _ _ _ _ _ _ ran;
       answers = laws.answers _ _ _ _ _ _ ran;
       own = laws.own _ _ _ _ _ _ ran;
       usage = laws.usage _ _ _ _ _ _ ran;
