@@ -1,9 +1,13 @@
 pub mod EmptyTree
-pub mod EmptySquares
 pub mod ZeroFits
-pub mod Held
 pub mod FirstStates
-pub mod Parts
-pub mod Checked
 pub mod Findings
 pub mod RefutedText
+pub mod Parsed
+pub mod Solving
+pub mod Replaying
+pub mod Checking
+pub mod Places
+pub mod Answering
+pub mod Laws
+pub mod NeverRises

@@ -3,11 +3,11 @@ use Rattle.std.proofs.Common.{◌≡◌, ℕ, List, Result, Ok, Err, refl}
 use Rattle.std.specs.Prelude.{IfOk}
 use Rattle.gas_model.specs.Rows.{Network}
 use Rattle.tree_cert.specs.Texts.{PassesWholeText, PassesPartText}
-use Rattle.tree_check.specs.declared.verdict.TreeFault.{TreeFault}
-use Rattle.tree_check.specs.declared.verdict.TreeFault.TheVariants as fault
+use Rattle.tree_cert.specs.declared.fault.TreeFault.{TreeFault}
+use Rattle.tree_cert.specs.declared.fault.TreeFault.TheVariants as fault
 use Rattle.tree_check.specs.Verdicts.{Answers}
 use Rattle.tree_rules.specs.Branches.{rules_of}
-use Rattle.nomval.specs.declared.status.NotFault.TheVariants.{Tree, Left}
+use Rattle.command_core.specs.declared.status.NotFault.TheVariants.{Tree, Left}
 use Rattle.nomval.proofs.Findings.{not_both}
 
 -- no box is left open

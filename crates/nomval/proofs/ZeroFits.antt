@@ -10,15 +10,40 @@ use Rattle.gas_model.specs.declared.rows.ArcRow.{ArcRow}
 use Rattle.gas_model.specs.declared.rows.Group.{Group}
 use Rattle.gas_model.specs.declared.rows.Decision.{Decision}
 use Rattle.gas_model.specs.Curves.{square}
-use Rattle.gas_model.specs.Limits.{is_id, is_flow, is_square, is_node_within}
+use Rattle.gas_model.specs.Limits.{between, is_id, is_flow, is_pressure, is_square, is_node_within}
 use Rattle.gas_model.specs.Rows.{Network}
 use Rattle.gas_model.specs.Within.{IsWithin, is_group_within}
 use Rattle.gas_model.specs.Choices.{ArePicks}
 use Rattle.gas_model.specs.Near.{SettingFits}
 use Rattle.nomval.specs.Zero.{middle_square, first_picks, first_states_from, zero_setting}
-use Rattle.nomval.proofs.EmptySquares.{ArePressures, pressures}
 use Rattle.integer_laws.proofs.Ring.{linear, le_true, square_le, square_nonneg}
 use Rattle.integer_laws.proofs.SizeLemmas.{between_within}
+
+both_true : (a b : Bool) → (a && b) ≡ true → (a ≡ true) × (b ≡ true)
+both_true true b h = (refl, h)
+both_true false b h = absurd cc
+
+-- the pressures of a node aren't negative, and at most 10^8 Pa
+pub record ArePressures (node : NodeRow) : Type 0 where
+  pub low : pos 0 ≤ℤ node.p_min
+  pub low_most : node.p_min ≤ℤ pos 100000000
+  pub high : pos 0 ≤ℤ node.p_max
+  pub high_most : node.p_max ≤ℤ pos 100000000
+
+in_between : (l x h : ℤ) → between l x h ≡ true → (l ≤ℤ x) × (x ≤ℤ h)
+in_between l x h e =
+    let p = both_true (int_le l x) (int_le x h) e in
+    (omega (arith, linear, p.0), omega (arith, linear, p.1))
+
+pub pressures : (node : NodeRow) → is_node_within node ≡ true → ArePressures node
+pressures node e =
+    let a = both_true _ (is_flow node.b_max) e in
+    let b = both_true _ (is_flow node.b_min) a.0 in
+    let c = both_true (is_id node.id && is_pressure node.p_min) (is_pressure node.p_max) b.0 in
+    let d = both_true (is_id node.id) (is_pressure node.p_min) c.0 in
+    let low = in_between (pos 0) node.p_min (pos 100000000) d.1 in
+    let high = in_between (pos 0) node.p_max (pos 100000000) c.1 in
+    record { low = low.0; low_most = low.1; high = high.0; high_most = high.1 }
 
 zeros_within : (n : ℕ) → list_all is_flow (replicate n (pos 0)) ≡ true
 zeros_within zero = refl
@@ -100,10 +125,6 @@ picked_first : (n k j : ℕ) → slice_get (replicate n 0) k ≡ Some j → j �
 picked_first zero k j e = absurd cc
 picked_first (suc n) zero j e = cc
 picked_first (suc n) (suc k) j e = picked_first n k j e
-
-both_true : (a b : Bool) → (a && b) ≡ true → (a ≡ true) × (b ≡ true)
-both_true true b h = (refl, h)
-both_true false b h = absurd cc
 
 -- a group of a problem has a first decision
 has_first : (arcs : List ArcRow) (g : Group) → is_group_within arcs g ≡ true → 0 < length g.decisions

@@ -1,9 +1,10 @@
-pub mod Words
-pub mod Lines
-pub mod Exits
-pub mod Opening
+pub mod Tolerances
 pub mod Zero
 pub mod Named
-pub mod Readings
-pub mod Answers
-pub mod Refusals
+pub mod Sources
+pub mod Solve
+pub mod Replay
+pub mod Check
+pub mod Plain
+pub mod Commands
+pub mod Headline

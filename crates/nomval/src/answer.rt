@@ -1,20 +1,23 @@
 // What is found for a problem.
 ghost use Rattle.std.specs.Prelude.{◌≡◌, ◌≤◌, ℕ, pos, Some, IfOk, IfSome, MatchOption};
 ghost use Rattle.gas_model.specs.Near.{IsNear};
-ghost use Rattle.gas_model.specs.Within.{IsWithin};
+ghost use Rattle.box_core.specs.Empty.{LeavesNone};
+ghost use Rattle.gas_model.specs.Boxes.{opening};
 ghost use Rattle.setting_text.specs.Writing.{setting_text};
-ghost use Rattle.nomval.specs.Answers.{IsAnswer};
-ghost use Rattle.nomval.specs.Opening.{first_empty};
-ghost use Rattle.nomval.specs.Words.{most_tolerance};
+ghost use Rattle.tree_cert.specs.Spelling.{AreLines};
+ghost use Rattle.nomval.specs.Solve.{IsFound, empty_tree, first_shut};
+ghost use Rattle.nomval.specs.Tolerances.{most_tolerance};
 ghost use Rattle.nomval.specs.Zero.{zero_setting};
 
-use crate::opening::{first_empty, write_empty_tree};
 use crate::zero::zero_setting;
+use box_core::VarBox;
 use element_laws::first_broken;
 use gas_model::{Bytes, NoMemory, Problem, Var};
+use interval_core::Ones;
 use setting_text::write_setting;
 use std::alloc::Global;
-use tree_check::{TreeFault, Verdict, check_tree};
+use tree_cert::{Closing, Line, TreeFault, write_tree};
+use tree_check::{Verdict, check_tree};
 
 /// What is found for a problem.
 #[derive(Debug, Drop)]
@@ -53,11 +56,19 @@ fn stop(fault: TreeFault) -> Result<Answer, NoMemory>
     }
 }
 
+// The text of the tree that closes the opening box by an empty variable.
+fn write_empty_tree(alloc: Global, var: Var) -> Result<Bytes, NoMemory>
+    ensures { IfOk result (λ text. AreLines text (empty_tree var)) }
+{
+    let lines = [Line::First, Line::Close(Closing::Empty(var)), Line::End];
+    write_tree(alloc, &lines)
+}
+
 // The tree that closes the opening box by an empty variable, once the checker passed it.
 fn refute(alloc: Global, p: &Problem, var: Var) -> Result<Answer, NoMemory>
-    requires empty { first_empty p.now ≡ Some var }
-    requires within { IsWithin p.now }
-    ensures { (tol : ℕ) → IfOk result (IsAnswer tol p.now) }
+    requires first { first_shut p.now ≡ Some var }
+    requires empty { LeavesNone (opening (pos 1) p.now) var }
+    ensures { (tol : ℕ) → IfOk result (IsFound tol p.now) }
 {
     let text = write_empty_tree(alloc, var)?;
     match check_tree(alloc, p, text.as_slice()) {
@@ -71,9 +82,10 @@ fn refute(alloc: Global, p: &Problem, var: Var) -> Result<Answer, NoMemory>
 // A tree, where a variable of the opening box is empty, else the zero setting, where it is near.
 pub fn answer_of(alloc: Global, p: &Problem, tol: u64) -> Result<Answer, NoMemory>
     requires { tol ≤ most_tolerance }
-    ensures { IfOk result (IsAnswer tol p.now) }
+    ensures { IfOk result (IsFound tol p.now) }
 {
-    if let Some(var) = first_empty(p) {
+    let bounds: VarBox<Ones> = VarBox::opening(alloc, p)?;
+    if let Some(var) = bounds.first_empty() {
         return refute(alloc, p, var);
     }
     match carry(alloc, p, tol)? {

@@ -1,62 +1,67 @@
-// The command `check-flat`: a flat problem and a tree in, and whether the tree refutes the problem.
-ghost use Rattle.std.specs.Prelude.{◌≡◌, ◌⊎◌};
-ghost use Rattle.gas_desk.specs.Outside.{CountsOn, SameFiles};
-ghost use Rattle.nomval.specs.Answers.{fault_status, FirstOffence, HasNotPassed, HasPassed, HasReadFault, HasReadFaultInOrder, IsChecked, IsTooLong};
-ghost use Rattle.nomval.specs.Refusals.{IsChecking};
-ghost use Rattle.nomval.specs.Words.{check_flat};
-ghost use Rattle.nomval.specs.declared.status.InputFile.{InputFile};
-ghost use Rattle.nomval.specs.declared.status.InputFault.{InputFault};
-ghost use Rattle.nomval.specs.declared.status.NotFault.{NotFault};
+// The command `check`: a problem and a tree in, and whether the tree refutes it.
+ghost use Rattle.std.specs.Prelude.{◌≡◌, ℕ, List, Err, IfOk};
+ghost use Rattle.gas_model.specs.Rows.{Network};
+ghost use Rattle.tree_check.specs.Verdicts.{Answers};
+ghost use Rattle.nomval.specs.Check.{IsVerdict, check_meaning, check_says};
+ghost use Rattle.nomval.specs.Sources.{origin_of};
 
-use crate::files::{read_problem, read_tree_file};
-use crate::{NotFault, Status};
+use crate::source::Source;
+use command_core::{Command, Done, InputFile, NotFault, Status, Stop, read_input};
 use gas_desk::Desk;
-use gas_model::Problem;
+use gas_model::{Bytes, NoMemory, Problem};
 use std::alloc::Global;
-use tree_check::{TreeFault, Verdict, check_tree};
+use tree_cert::TreeFault;
+use tree_check::{Verdict, check_tree};
 
-// How the command ends where the checker finds this fault.
-fn status_of(fault: TreeFault) -> Status
-    ensures { result ≡ fault_status fault }
+/// The command, with its words.
+#[derive(Clone, Copy, Debug)]
+pub struct Check<'a> {
+    pub source: Source<'a>,
+    pub tree: &'a str,
+}
+
+// What a fault that the checker finds says of the text.
+fn refused(fault: TreeFault) -> Result<Status, NoMemory>
+    ensures { (p : Network) (text : List ℕ) → Answers p text (Err fault) → IfOk result (IsVerdict p text) }
 {
     match fault {
-        TreeFault::NoMemory => Status::NoMemory,
-        _ => Status::NotRefutation(NotFault::Tree(fault)),
+        TreeFault::NoMemory => Err(NoMemory),
+        _ => Ok(Status::NotRefutation(NotFault::Tree(fault))),
+    }
+}
+
+// What the checker finds.
+fn verdict_of(alloc: Global, p: &Problem, text: &[u8]) -> Result<Status, NoMemory>
+    ensures { IfOk result (IsVerdict p.now text.now) }
+{
+    match check_tree(alloc, p, text) {
+        Ok(Verdict::Refutes) => Ok(Status::Passes),
+        Ok(Verdict::Partial { first_open }) => Ok(Status::NotRefutation(NotFault::Left {
+            line: first_open,
+        })),
+        Err(fault) => refused(fault),
     }
 }
 
 // Whether the text refutes the problem.
-fn judge(alloc: Global, p: &Problem, text: &[u8]) -> Status
-    ensures { IsChecked p.now text.now result }
+fn judge(alloc: Global, p: &Problem, text: &[u8]) -> Result<Done, NoMemory>
+    ensures { IfOk result (λ done. check_says p.now text.now done.status done.note done.texts) }
 {
-    match check_tree(alloc, p, text) {
-        Ok(Verdict::Refutes) => Status::Passes,
-        Ok(Verdict::Partial { first_open }) => Status::NotRefutation(NotFault::Left {
-            line: first_open,
-        }),
-        Err(fault) => status_of(fault),
-    }
+    let status = verdict_of(alloc, p, text)?;
+    Ok(Done::said(alloc, status, Bytes::new(alloc)))
 }
 
-// Reads the problem and the tree, and judges the tree.
-pub fn check_flat<D: Desk>(alloc: Global, desk: &mut D, problem: &str, tree: &str) -> Status
-    ensures passes { D.tells → result ≡ Status.Passes → HasPassed (D.outside desk.old) (check_flat problem.now tree.now) }
-    ensures not_refutation { D.tells → (fault : NotFault) → result ≡ Status.NotRefutation fault → HasNotPassed (D.outside desk.old) fault (check_flat problem.now tree.now) }
-    ensures bad_input { D.tells → (file : InputFile) (fault : InputFault) → result ≡ Status.BadInput file fault → FirstOffence (D.outside desk.old) file fault (check_flat problem.now tree.now) }
-    ensures too_long { D.tells → (file : InputFile) → result ≡ Status.TooLong file → IsTooLong (D.outside desk.old) file (check_flat problem.now tree.now) }
-    ensures read_fault { result ≡ Status.ReadFault → HasReadFault (D.outside desk.old) (D.outside desk.new) (check_flat problem.now tree.now) }
-    ensures read_order { D.tells → result ≡ Status.ReadFault → HasReadFaultInOrder (D.outside desk.old) (D.outside desk.new) (check_flat problem.now tree.now) }
-    ensures never { IsChecking result }
-    ensures untouched { D.tells → SameFiles (D.outside desk.old) (D.outside desk.new) }
-    ensures said { D.tells → (D.outside desk.new).said ≡ (D.outside desk.old).said }
-    ensures counts { CountsOn (D.outside desk.old) (D.outside desk.new) }
-{
-    let problem = match read_problem(alloc, desk, problem) {
-        Ok(problem) => problem,
-        Err(status) => return status,
-    };
-    match read_tree_file(alloc, desk, tree) {
-        Ok(text) => judge(alloc, &problem, text.as_slice()),
-        Err(status) => status,
+impl<'a> Command for Check<'a> {
+    ghost meaning = { λ check. check_meaning (origin_of check.source) check.tree.now };
+
+    fn outs(&self) -> &[&str] {
+        &[]
+    }
+
+    fn work<D: Desk>(&self, alloc: Global, desk: &mut D) -> Result<Done, Stop> {
+        let problem = self.source.read(alloc, desk)?;
+        let tree = read_input(alloc, desk, self.tree, InputFile::TreeFile)?;
+        let done = judge(alloc, &problem, tree.as_slice())?;
+        Ok(done)
     }
 }

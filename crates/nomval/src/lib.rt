@@ -2,20 +2,18 @@
 #![tactic(auto)]
 
 mod answer;
+mod asking;
+mod carry;
 mod check;
-mod command;
-mod files;
-mod lines;
-mod opening;
+mod program;
 mod replay;
 mod solve;
-mod status;
-#[cfg(test)]
-mod tests;
+mod source;
+mod tolerance;
 mod undisturbed;
 mod words;
 mod zero;
 
-pub use command::run;
-pub use status::{InputFault, InputFile, NotFault, Status};
+pub use command_core::{InputFault, InputFile, NotFault, Status};
+pub use program::run;
 pub use undisturbed::run_undisturbed;

@@ -1,94 +1,119 @@
-// The command `replay-flat`: a flat problem and a setting in, and whether the setting carries it.
-ghost use Rattle.std.specs.Prelude.{◌≡◌, ◌⊎◌, ◌≤◌, ℕ, List, pos, IfOk};
-ghost use Rattle.gas_desk.specs.Outside.{CountsOn, SameFiles};
+// The command `replay`: a problem and a setting in, and whether the setting carries it.
+ghost use Rattle.std.specs.Prelude.{◌≡◌, ◌≤◌, [], ◌∷◌, IfOk};
+ghost use Rattle.command_core.specs.Gates.{IsParsed, Reads, file_is, gate_of, stands};
+ghost use Rattle.command_core.specs.Stops.{stop_in};
+ghost use Rattle.command_core.specs.declared.status.InputFile.TheVariants.{SettingFile};
 ghost use Rattle.gas_model.specs.Near.{SettingFits};
-ghost use Rattle.element_laws.specs.declared.broken.Broken.{Broken};
-ghost use Rattle.nomval.specs.Answers.{Breaks, FirstOffence, HasReadFault, HasReadFaultInOrder, IsJudged, IsKept, IsNotKept, IsTooLong};
 ghost use Rattle.nomval.specs.Named.{arc_id_at, node_id_at, id_of};
-ghost use Rattle.nomval.specs.Refusals.{IsReplaying};
-ghost use Rattle.nomval.specs.Words.{replay_flat, most_tolerance};
-ghost use Rattle.nomval.specs.declared.status.InputFile.{InputFile};
-ghost use Rattle.nomval.specs.declared.status.InputFault.{InputFault};
+ghost use Rattle.nomval.specs.Replay.{replay_meaning, replay_says, setting_for};
+ghost use Rattle.nomval.specs.Sources.{origin_of};
+ghost use Rattle.nomval.specs.Tolerances.{most_tolerance};
 
-use crate::Status;
-use crate::files::{read_problem, read_setting_file};
+use crate::source::Source;
+use crate::tolerance::Tolerance;
+use command_core::{Command, Done, InputFault, InputFile, Status, Stop, read_input, refuse};
 use element_laws::{Broken, first_broken};
 use gas_desk::Desk;
-use gas_model::{Name, NoMemory, Problem, Setting};
+use gas_model::{Bytes, NoMemory, Problem, Setting};
+use setting_text::read_setting;
 use std::alloc::Global;
 
-fn arc_id(alloc: Global, p: &Problem, arc: u32) -> Result<Name, NoMemory>
-    ensures { IfOk result (λ id. id ≡ arc_id_at p.now arc) }
+/// The command, with its words.
+#[derive(Clone, Copy, Debug)]
+pub struct Replay<'a> {
+    pub source: Source<'a>,
+    pub setting: &'a str,
+    pub tol: Tolerance,
+}
+
+// The setting of the problem that the bytes stand for.
+fn setting_in(alloc: Global, p: &Problem, bytes: &[u8]) -> Result<Setting, Stop>
+    ensures parsed { IsParsed SettingFile (setting_for p.now bytes.now) result }
+    ensures fits { IfOk result (λ s. SettingFits p.now s) }
 {
-    match p.arcs().get(arc as usize) {
-        Some(row) => row.id.copy(alloc),
-        None => Ok(Name::new(alloc)),
+    match read_setting(alloc, p, bytes) {
+        Ok(setting) => Ok(setting),
+        Err(fault) => Err(refuse(InputFile::SettingFile, InputFault::OfSetting(fault))),
     }
 }
 
-fn node_id(alloc: Global, p: &Problem, node: u32) -> Result<Name, NoMemory>
-    ensures { IfOk result (λ id. id ≡ node_id_at p.now node) }
+// The setting of the problem that the named file stands for.
+fn read_setting_file<D: Desk>(
+    alloc: Global,
+    desk: &mut D,
+    p: &Problem,
+    name: &str,
+) -> Result<Setting, Stop>
+    ensures stands { D.tells → IfOk result (λ s. file_is (setting_for p.now) ((D.outside desk.old).files name.now) ≡ stands s) }
+    ensures fits { IfOk result (λ s. SettingFits p.now s) }
+    ensures reads { Reads D.tells D.counts_exactly (gate_of SettingFile (setting_for p.now) name.now ∷ []) (D.outside desk.old) (D.outside desk.new) (stop_in result) }
+{
+    let bytes = read_input(alloc, desk, name, InputFile::SettingFile)?;
+    setting_in(alloc, p, bytes.as_slice())
+}
+
+fn arc_id(p: &Problem, arc: u32) -> &str
+    ensures { result.now ≡ arc_id_at p.now arc }
+{
+    match p.arcs().get(arc as usize) {
+        Some(row) => row.id.as_str(),
+        None => "",
+    }
+}
+
+fn node_id(p: &Problem, node: u32) -> &str
+    ensures { result.now ≡ node_id_at p.now node }
 {
     match p.nodes().get(node as usize) {
-        Some(row) => row.id.copy(alloc),
-        None => Ok(Name::new(alloc)),
+        Some(row) => row.id.as_str(),
+        None => "",
     }
 }
 
 // The id of the arc or node whose law is broken.
-fn id_of(alloc: Global, p: &Problem, law: Broken) -> Result<Name, NoMemory>
-    ensures { IfOk result (λ id. id ≡ id_of p.now law) }
+fn id_of(p: &Problem, law: Broken) -> &str
+    ensures { result.now ≡ id_of p.now law }
 {
     match law {
-        Broken::Choice { arc } | Broken::FlowBound { arc } | Broken::Law { arc } => {
-            arc_id(alloc, p, arc)
-        }
-        Broken::PressureBound { node } | Broken::Balance { node } => node_id(alloc, p, node),
+        Broken::Choice { arc } | Broken::FlowBound { arc } | Broken::Law { arc } => arc_id(p, arc),
+        Broken::PressureBound { node } | Broken::Balance { node } => node_id(p, node),
     }
+}
+
+// The setting breaks this law, which is named by its arc's or node's id.
+fn broken(alloc: Global, p: &Problem, law: Broken) -> Result<Done, NoMemory>
+    ensures status { IfOk result (λ done. done.status ≡ Status.Broken law) }
+    ensures note { IfOk result (λ done. done.note ≡ id_of p.now law) }
+    ensures texts { IfOk result (λ done. done.texts ≡ []) }
+{
+    let mut note = Bytes::new(alloc);
+    note.append(id_of(p, law).as_bytes())?;
+    Ok(Done::said(alloc, Status::Broken(law), note))
 }
 
 // Whether the setting carries the problem, or the first law that it breaks.
-fn judge(alloc: Global, p: &Problem, setting: &Setting, tol: u64) -> Status
+fn judge(alloc: Global, p: &Problem, setting: &Setting, tol: u64) -> Result<Done, NoMemory>
     requires fits { SettingFits p.now setting.now }
     requires limit { tol ≤ most_tolerance }
-    ensures { IsJudged p.now (pos tol) setting.now result }
+    ensures { IfOk result (λ done. replay_says tol p.now setting.now done.status done.note done.texts) }
 {
     match first_broken(p, setting, tol as i128) {
-        None => Status::Kept,
-        Some(law) => match id_of(alloc, p, law) {
-            Ok(id) => Status::Broken { law, id },
-            Err(NoMemory) => Status::NoMemory,
-        },
+        None => Ok(Done::said(alloc, Status::Kept, Bytes::new(alloc))),
+        Some(law) => broken(alloc, p, law),
     }
 }
 
-// Reads the problem and the setting, and judges the setting.
-pub fn replay_flat<D: Desk>(
-    alloc: Global,
-    desk: &mut D,
-    problem: &str,
-    setting: &str,
-    tol: u64,
-) -> Status
-    requires { tol ≤ most_tolerance }
-    ensures kept { D.tells → result ≡ Status.Kept → IsKept (D.outside desk.old) (replay_flat problem.now setting.now tol) }
-    ensures broken { D.tells → (law : Broken) (id : List ℕ) → result ≡ Status.Broken law id → Breaks (D.outside desk.old) law id (replay_flat problem.now setting.now tol) }
-    ensures not_kept { D.tells → (law : Broken) (id : List ℕ) → result ≡ Status.Broken law id → IsNotKept (D.outside desk.old) (replay_flat problem.now setting.now tol) }
-    ensures bad_input { D.tells → (file : InputFile) (fault : InputFault) → result ≡ Status.BadInput file fault → FirstOffence (D.outside desk.old) file fault (replay_flat problem.now setting.now tol) }
-    ensures too_long { D.tells → (file : InputFile) → result ≡ Status.TooLong file → IsTooLong (D.outside desk.old) file (replay_flat problem.now setting.now tol) }
-    ensures read_fault { result ≡ Status.ReadFault → HasReadFault (D.outside desk.old) (D.outside desk.new) (replay_flat problem.now setting.now tol) }
-    ensures read_order { D.tells → result ≡ Status.ReadFault → HasReadFaultInOrder (D.outside desk.old) (D.outside desk.new) (replay_flat problem.now setting.now tol) }
-    ensures never { IsReplaying result }
-    ensures untouched { D.tells → SameFiles (D.outside desk.old) (D.outside desk.new) }
-    ensures said { D.tells → (D.outside desk.new).said ≡ (D.outside desk.old).said }
-    ensures counts { CountsOn (D.outside desk.old) (D.outside desk.new) }
-{
-    let problem = match read_problem(alloc, desk, problem) {
-        Ok(problem) => problem,
-        Err(status) => return status,
-    };
-    match read_setting_file(alloc, desk, &problem, setting) {
-        Ok(setting) => judge(alloc, &problem, &setting, tol),
-        Err(status) => status,
+impl<'a> Command for Replay<'a> {
+    ghost meaning = { λ replay. replay_meaning (origin_of replay.source) replay.setting.now replay.tol.value };
+
+    fn outs(&self) -> &[&str] {
+        &[]
+    }
+
+    fn work<D: Desk>(&self, alloc: Global, desk: &mut D) -> Result<Done, Stop> {
+        let problem = self.source.read(alloc, desk)?;
+        let setting = read_setting_file(alloc, desk, &problem, self.setting)?;
+        let done = judge(alloc, &problem, &setting, self.tol.get())?;
+        Ok(done)
     }
 }

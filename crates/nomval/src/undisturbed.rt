@@ -1,13 +1,18 @@
 // The same over a desk on which nothing fails.
-ghost use Rattle.std.specs.Prelude.{◌≡◌, ◌⊎◌, ◌++◌, ◌∷◌, [], ℕ, List, Ok, Err};
+ghost use Rattle.std.specs.Prelude.{◌≡◌, ◌⊎◌, ℕ, Ok, Err};
 ghost use Rattle.gas_desk.specs.Never.{never_failing};
 ghost use Rattle.element_laws.specs.declared.broken.Broken.{Broken};
-ghost use Rattle.nomval.specs.Answers.{HasCarried, HasRefuted, LeavesOpen, IsKept, IsNotKept, Breaks, HasPassed, HasNotPassed, FirstOffence, IsTooLong, OnlyOutChanges, ForCommand, OnCommand, FilesStand, IsDone};
-ghost use Rattle.nomval.specs.Lines.{line_of};
-ghost use Rattle.nomval.specs.Words.{Plain, plain, texts};
-ghost use Rattle.nomval.specs.declared.status.InputFile.{InputFile};
-ghost use Rattle.nomval.specs.declared.status.InputFault.{InputFault};
-ghost use Rattle.nomval.specs.declared.status.NotFault.{NotFault};
+ghost use Rattle.command_core.specs.Gates.{all_fine, bad, found, long};
+ghost use Rattle.command_core.specs.Lines.{line_of};
+ghost use Rattle.command_core.specs.Meanings.{Answered, Due, SameButOuts, Says};
+ghost use Rattle.command_core.specs.Stops.{IsAnswer, IsRefusal};
+ghost use Rattle.command_core.specs.declared.status.InputFile.{InputFile};
+ghost use Rattle.command_core.specs.declared.status.InputFault.{InputFault};
+ghost use Rattle.command_core.specs.declared.status.NotFault.{NotFault};
+ghost use Rattle.command_core.specs.declared.status.Status.{Status};
+ghost use Rattle.nomval.specs.Commands.{ForCommand, OnCommand, meaning};
+ghost use Rattle.nomval.specs.Headline.{HasCarried, HasNotPassed, HasPassed, HasRefuted, IsBroken, IsKept, LeavesOpen};
+ghost use Rattle.nomval.specs.Plain.{IsPlace, Plain, plain, texts};
 
 use crate::{Status, run};
 use gas_desk::NeverFails;
@@ -17,24 +22,26 @@ use std::alloc::Global;
 pub fn run_undisturbed(alloc: Global, words: &[&str], desk: &mut NeverFails) -> Status
     ensures no_read_fault { result ≡ Status.ReadFault → ⊥ }
     ensures no_write_fault { result ≡ Status.WriteFault → ⊥ }
-    ensures complete { (c : Plain) → plain (texts words.now) ≡ Ok c → FilesStand (never_failing desk.old) c
-        → IsDone result c ⊎ (result ≡ Status.NoMemory) }
+    ensures complete { (c : Plain) → plain (texts words.now) ≡ Ok c → found (meaning c).gates (never_failing desk.old).files ≡ all_fine
+        → IsAnswer result ⊎ (result ≡ Status.NoMemory) }
+    ensures due { (c : Plain) (s : Status) → plain (texts words.now) ≡ Ok c → Due (meaning c) (never_failing desk.old).files s
+        → (result ≡ s) ⊎ (result ≡ Status.NoMemory) }
 
     // Each answer says what it says of any desk.
-    ensures accepted { result ≡ Status.Accepted → ForCommand words.now (HasCarried (never_failing desk.old) (never_failing desk.new)) }
-    ensures rejected { result ≡ Status.Rejected → ForCommand words.now (HasRefuted (never_failing desk.old) (never_failing desk.new)) }
-    ensures unfinished { result ≡ Status.Unfinished → ForCommand words.now (LeavesOpen (never_failing desk.old)) }
-    ensures kept { result ≡ Status.Kept → ForCommand words.now (IsKept (never_failing desk.old)) }
-    ensures broken { (law : Broken) (id : List ℕ) → result ≡ Status.Broken law id → ForCommand words.now (Breaks (never_failing desk.old) law id) }
-    ensures not_kept { (law : Broken) (id : List ℕ) → result ≡ Status.Broken law id → ForCommand words.now (IsNotKept (never_failing desk.old)) }
-    ensures passes { result ≡ Status.Passes → ForCommand words.now (HasPassed (never_failing desk.old)) }
-    ensures not_refutation { (fault : NotFault) → result ≡ Status.NotRefutation fault → ForCommand words.now (HasNotPassed (never_failing desk.old) fault) }
-    ensures usage { (at : ℕ) → result ≡ Status.Usage at → plain (texts words.now) ≡ Err at }
-    ensures bad_input { (file : InputFile) (fault : InputFault) → result ≡ Status.BadInput file fault → ForCommand words.now (FirstOffence (never_failing desk.old) file fault) }
-    ensures too_long { (file : InputFile) → result ≡ Status.TooLong file → ForCommand words.now (IsTooLong (never_failing desk.old) file) }
-    ensures others { OnCommand words.now (OnlyOutChanges (never_failing desk.old) (never_failing desk.new)) }
-    ensures said { (result ≡ Status.NoMemory → ⊥)
-        → (never_failing desk.new).said ≡ (never_failing desk.old).said ++ line_of result ++ 10 ∷ [] }
+    ensures accepted { result ≡ Status.Accepted → HasCarried (texts words.now) (never_failing desk.old) (never_failing desk.new) }
+    ensures rejected { result ≡ Status.Rejected → HasRefuted (texts words.now) (never_failing desk.old) (never_failing desk.new) }
+    ensures unfinished { result ≡ Status.Unfinished → LeavesOpen (texts words.now) (never_failing desk.old) (never_failing desk.new) }
+    ensures kept { result ≡ Status.Kept → IsKept (texts words.now) (never_failing desk.old) (never_failing desk.new) }
+    ensures broken { (law : Broken) → result ≡ Status.Broken law → IsBroken law (texts words.now) (never_failing desk.old) (never_failing desk.new) }
+    ensures passes { result ≡ Status.Passes → HasPassed (texts words.now) (never_failing desk.old) (never_failing desk.new) }
+    ensures not_refutation { (fault : NotFault) → result ≡ Status.NotRefutation fault → HasNotPassed fault (texts words.now) (never_failing desk.old) (never_failing desk.new) }
+    ensures usage { (at : ℕ) → result ≡ Status.Usage at → (plain (texts words.now) ≡ Err at) × IsPlace at (texts words.now) }
+    ensures bad_input { (file : InputFile) (fault : InputFault) → result ≡ Status.BadInput file fault
+        → ForCommand (texts words.now) (λ c. found (meaning c).gates (never_failing desk.old).files ≡ bad file fault) }
+    ensures too_long { (file : InputFile) → result ≡ Status.TooLong file
+        → ForCommand (texts words.now) (λ c. found (meaning c).gates (never_failing desk.old).files ≡ long file) }
+    ensures refused { IsRefusal result → Says (line_of result) (never_failing desk.old) (never_failing desk.new) }
+    ensures others { OnCommand (texts words.now) (λ c. SameButOuts (meaning c).outs (never_failing desk.old) (never_failing desk.new)) }
 {
     run(alloc, words, desk)
 }

@@ -1,35 +1,38 @@
-// The words of the command line.
-ghost use Rattle.std.specs.Prelude.{◌≡◌, ◌≤◌, ◌<◌, ◌+◌, ◌^◌, ℕ, List, IfOk};
+// The words of a command: files and options.
+ghost use Rattle.std.specs.Prelude.{◌≡◌, ◌+◌, ◌<◌, ◌^◌, ℕ, length};
 ghost use Rattle.std.specs.Result.{result_map_both};
-ghost use Rattle.nomval.specs.Words.{is_file_word, file_at, tolerance_in, most_tolerance, no_more, files_alone, number_at, options_at, plain, plain_of, tolerance_of, two_files, Plain, texts};
 ghost use Rattle.line_text.specs.Numerals.{natural};
+ghost use Rattle.nomval.specs.Plain.{file_at, flat_source, give, is_file_word, no_more, option_in, options_at, options_of, texts, tolerance_in, tolerance_of};
+ghost use Rattle.nomval.specs.Sources.{origin_of};
 
+use crate::source::Source;
+use crate::tolerance::Tolerance;
 use line_text::size_at;
 
-/// A command, with the files that it names and, where laws may be off, its tolerance in Pa^2.
-#[derive(Clone, Copy, Debug)]
-pub enum Command<'a> {
-    SolveFlat {
-        problem: &'a str,
-        out: &'a str,
-        tol: u64,
-    },
-    ReplayFlat {
-        problem: &'a str,
-        setting: &'a str,
-        tol: u64,
-    },
-    CheckFlat {
-        problem: &'a str,
-        tree: &'a str,
-    },
+/// An option.
+#[derive(Clone, Copy, Debug, PartialEq, Eq)]
+pub enum Choice {
+    /// `--tol`, with a tolerance in Pa^2.
+    Tol,
 }
 
-// The tolerance where no option gives one, in Pa^2.
-const DEFAULT_TOLERANCE: u64 = 100_000_000;
+/// What the options gave.
+#[derive(Clone, Copy, Debug)]
+pub struct Given {
+    pub tol: Option<Tolerance>,
+}
 
-// The greatest tolerance, in Pa^2.
-const MOST_TOLERANCE: u64 = 10_000_000_000_000_000;
+impl Given {
+    /// The tolerance that was given, or the usual one.
+    pub fn tolerance(self) -> Tolerance
+        ensures { result.value ≡ tolerance_of (options_of self) }
+    {
+        match self.tol {
+            Some(tol) => tol,
+            None => Tolerance::usual(),
+        }
+    }
+}
 
 fn is_file(word: &str) -> bool
     ensures { result ≡ is_file_word word.now }
@@ -40,8 +43,8 @@ fn is_file(word: &str) -> bool
     }
 }
 
-// The word at this place, which names a file, and the words after it.
-fn file_at<'a, 'b>(at: u64, words: &'b [&'a str]) -> Result<(&'a str, &'b [&'a str]), u64>
+/// The word at this place, which names a file, and the words after it.
+pub fn file_at<'a, 'b>(at: u64, words: &'b [&'a str]) -> Result<(&'a str, &'b [&'a str]), u64>
     ensures { result_map_both (λ x. (x.0.now, texts x.1.now)) (λ e. e) result ≡ file_at at (texts words.entry.now) }
 {
     match words {
@@ -50,99 +53,68 @@ fn file_at<'a, 'b>(at: u64, words: &'b [&'a str]) -> Result<(&'a str, &'b [&'a s
     }
 }
 
-// The tolerance that the word at this place is.
-fn tolerance_in(at: u64, word: &str) -> Result<u64, u64>
-    ensures exact { result ≡ tolerance_in at (natural word.now) }
-    ensures limit { IfOk result (λ tol. tol ≤ most_tolerance) }
-{
-    match size_at(word) {
-        Some(tol) if tol <= MOST_TOLERANCE => Ok(tol),
-        _ => Err(at),
-    }
-}
-
-// The tolerance of the option whose number is the word at this place, the last of the words.
-fn number_at(at: u64, words: &[&str]) -> Result<u64, u64>
-    requires { at + 1 < 2 ^ 64 }
-    ensures exact { result ≡ number_at at (texts words.entry.now) }
-    ensures limit { IfOk result (λ tol. tol ≤ most_tolerance) }
-{
-    match words {
-        [] => Err(at),
-        [word] => tolerance_in(at, word),
-        [word, ..] => {
-            tolerance_in(at, word)?;
-            Err(at + 1)
-        }
-    }
-}
-
-// The options, from the word at this place on.
-fn options_at(at: u64, words: &[&str]) -> Result<u64, u64>
-    requires { at + 2 < 2 ^ 64 }
-    ensures exact { result ≡ options_at at (texts words.entry.now) }
-    ensures limit { IfOk result (λ tol. tol ≤ most_tolerance) }
-{
-    match words {
-        [] => Ok(DEFAULT_TOLERANCE),
-        [option, rest @ ..] if *option == "--tol" => number_at(at + 1, rest),
-        _ => Err(at),
-    }
-}
-
-// Two words that name files, and the tolerance, after the command.
-fn two_files<'a>(words: &[&'a str]) -> Result<(&'a str, &'a str, u64), u64>
-    ensures limit { IfOk result (λ x. x.2 ≤ most_tolerance) }
-    ensures exact { (make : List ℕ → List ℕ → ℕ → Plain) → result_map_both (λ x. make x.0.now x.1.now x.2) (λ e. e) result ≡ two_files make (texts words.entry.now) }
-{
-    let (first, rest) = file_at(1, words)?;
-    let (second, rest) = file_at(2, rest)?;
-    let tol = options_at(3, rest)?;
-    Ok((first, second, tol))
-}
-
-// The end of the words, before the word at this place.
-fn no_more(at: u64, words: &[&str]) -> Result<(), u64>
+/// The end of the words, before the word at this place.
+pub fn no_more(at: u64, words: &[&str]) -> Result<(), u64>
     ensures { result_map_both (λ x. tt) (λ e. e) result ≡ no_more at (texts words.entry.now) }
 {
     if words.is_empty() { Ok(()) } else { Err(at) }
 }
 
-// Two words that name files, and no more, after the command.
-fn files_alone<'a>(words: &[&'a str]) -> Result<(&'a str, &'a str), u64>
-    ensures { (make : List ℕ → List ℕ → Plain) → result_map_both (λ x. make x.0.now x.1.now) (λ e. e) result ≡ files_alone make (texts words.entry.now) }
+/// The one file of a flat problem, from word 1 on, and the words after it, from word 2 on.
+pub fn flat_source<'a, 'b>(words: &'b [&'a str]) -> Result<(Source<'a>, &'b [&'a str]), u64>
+    ensures { result_map_both (λ x. (origin_of x.0, texts x.1.now)) (λ e. e) result ≡ flat_source (texts words.entry.now) }
 {
-    let (first, rest) = file_at(1, words)?;
-    let (second, rest) = file_at(2, rest)?;
-    no_more(3, rest)?;
-    Ok((first, second))
+    let (file, rest) = file_at(1, words)?;
+    Ok((Source::Flat(file), rest))
 }
 
-// The command that the words are, or the place where the words leave the plain form.
-pub fn read_words<'a>(words: &[&'a str]) -> Result<Command<'a>, u64>
-    ensures exact { result_map_both plain_of (λ at. at) result ≡ plain (texts words.entry.now) }
-    ensures limit { IfOk result (λ command. tolerance_of (plain_of command) ≤ most_tolerance) }
+// The tolerance that the word at this place is.
+fn tolerance_in(at: u64, word: &str) -> Result<Tolerance, u64>
+    ensures { result_map_both (λ tol. tol.value) (λ e. e) result ≡ tolerance_in at (natural word.now) }
 {
-    let Some((command, rest)) = words.split_first() else {
-        return Err(0);
-    };
-    match *command {
-        "solve-flat" => {
-            let (problem, out, tol) = two_files(rest)?;
-            Ok(Command::SolveFlat { problem, out, tol })
-        }
-        "replay-flat" => {
-            let (problem, setting, tol) = two_files(rest)?;
-            Ok(Command::ReplayFlat {
-                problem,
-                setting,
-                tol,
-            })
-        }
-        "check-flat" => {
-            let (problem, tree) = files_alone(rest)?;
-            Ok(Command::CheckFlat { problem, tree })
-        }
-        _ => Err(0),
+    match size_at(word) {
+        Some(value) => match Tolerance::of(value) {
+            Some(tol) => Ok(tol),
+            None => Err(at),
+        },
+        None => Err(at),
     }
+}
+
+// The option that the word at this place is, if it wasn't given yet.
+fn option_in(at: u64, given: Given, word: &str) -> Result<Choice, u64>
+    ensures { result ≡ option_in at (options_of given) word.now }
+{
+    match given.tol {
+        None if word == "--tol" => Ok(Choice::Tol),
+        _ => Err(at),
+    }
+}
+
+// What is given with this option and its number, which is the word at this place.
+fn give(at: u64, option: Choice, given: Given, number: &str) -> Result<Given, u64>
+    ensures { result_map_both options_of (λ e. e) result ≡ give at option (options_of given) (natural number.now) }
+{
+    match option {
+        Choice::Tol => {
+            let tol = tolerance_in(at, number)?;
+            Ok(Given { tol: Some(tol) })
+        }
+    }
+}
+
+/// What the options give, from the word at this place on.
+pub fn options_at(at: u64, given: Given, words: &[&str]) -> Result<Given, u64>
+    requires { at + length words.now < 2 ^ 64 }
+    ensures { result_map_both options_of (λ e. e) result ≡ options_at at (options_of given) (texts words.entry.now) }
+{
+    let Some((word, rest)) = words.split_first() else {
+        return Ok(given);
+    };
+    let option = option_in(at, given, word)?;
+    let Some((number, rest)) = rest.split_first() else {
+        return Err(at + 1);
+    };
+    let more = give(at + 1, option, given, number)?;
+    options_at(at + 2, more, rest)
 }

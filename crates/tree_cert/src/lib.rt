@@ -11,7 +11,7 @@ mod reading;
 mod words;
 mod writing;
 
-pub use fault::{FaultKind, LineFault};
+pub use fault::{FaultKind, LineFault, TreeFault};
 pub use laws::{
     Rules, closed_trees_have_no_open_line, findings_are_unique, findings_exist, lines_are_read,
     texts_have_one_tree, walks_are_texts,

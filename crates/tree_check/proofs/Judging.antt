@@ -27,8 +27,8 @@ use Rattle.tree_check.specs.declared.reader.Stop.{Stop}
 use Rattle.tree_check.specs.declared.reader.Stop.TheVariants as stops
 use Rattle.tree_check.specs.declared.verdict.Verdict.{Verdict}
 use Rattle.tree_check.specs.declared.verdict.Verdict.TheVariants as verdict
-use Rattle.tree_check.specs.declared.verdict.TreeFault.{TreeFault}
-use Rattle.tree_check.specs.declared.verdict.TreeFault.TheVariants as faults
+use Rattle.tree_cert.specs.declared.fault.TreeFault.{TreeFault}
+use Rattle.tree_cert.specs.declared.fault.TreeFault.TheVariants as faults
 use Rattle.tree_check.specs.Verdicts.{finding_of, answer_to, stopped, passing, or_open, Answers, IsAnswered}
 
 pub lines_cut : (bytes piece rest : List ℕ) → pieces bytes ≡ piece ∷ pieces rest → lines_in bytes ≡ told (line_of piece) ∷ lines_in rest

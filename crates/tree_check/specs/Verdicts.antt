@@ -10,8 +10,8 @@ use Rattle.tree_check.specs.declared.reader.Stop.{Stop}
 use Rattle.tree_check.specs.declared.reader.Stop.TheVariants as stops
 use Rattle.tree_check.specs.declared.verdict.Verdict.{Verdict}
 use Rattle.tree_check.specs.declared.verdict.Verdict.TheVariants as verdict
-use Rattle.tree_check.specs.declared.verdict.TreeFault.{TreeFault}
-use Rattle.tree_check.specs.declared.verdict.TreeFault.TheVariants as fault
+use Rattle.tree_cert.specs.declared.fault.TreeFault.{TreeFault}
+use Rattle.tree_cert.specs.declared.fault.TreeFault.TheVariants as fault
 
 -- what an answer says of the text, if it isn't a want of memory
 abbrev pub finding_of : Result Verdict TreeFault → Option Finding

@@ -12,10 +12,10 @@ ghost use Rattle.tree_check.specs.Verdicts.{finding_of, stopped, passing, or_ope
 
 use crate::open_box::OpenBox;
 use crate::reader::{Mark, Reader, Stop, read};
-use crate::verdict::{TreeFault, Verdict};
+use crate::verdict::Verdict;
 use gas_model::Problem;
 use std::alloc::Global;
-use tree_cert::{FaultKind, Line, LineFault, cut_piece, read_line};
+use tree_cert::{FaultKind, Line, LineFault, TreeFault, cut_piece, read_line};
 
 // A fault with the number of its line.
 fn fault_at(kind: FaultKind, line: u64) -> TreeFault

@@ -21,7 +21,8 @@ mod steps;
 mod verdict;
 
 pub use check::check_tree;
-pub use verdict::{TreeFault, Verdict};
+pub use tree_cert::TreeFault;
+pub use verdict::Verdict;
 
 #[cfg(test)]
 mod tests;

@@ -3,7 +3,7 @@ use Rattle.tree_cert.specs.declared.fault.FaultKind.TheVariants.{WrongEnd}
 use Rattle.tree_cert.specs.Reading.{line_of}
 use Rattle.tree_cert.specs.Texts.{told, lines_in, Fails}
 use Rattle.tree_rules.specs.Branches.{rules_of}
-use Rattle.tree_check.specs.declared.verdict.TreeFault.TheVariants as fault
+use Rattle.tree_cert.specs.declared.fault.TreeFault.TheVariants as fault
 use Rattle.tree_check.specs.Reading.{place_of}
 use Rattle.tree_check.specs.Verdicts.{passing}
 use Rattle.tree_check.proofs.NumberFits.{scale_fits}

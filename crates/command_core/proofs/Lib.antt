@@ -1,0 +1,5 @@
+pub mod Outs
+pub mod Concluding
+pub mod Walks
+pub mod Parsing
+pub mod Conclusions

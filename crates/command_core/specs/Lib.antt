@@ -1,0 +1,7 @@
+pub mod Exits
+pub mod FaultTexts
+pub mod Lines
+pub mod Stops
+pub mod Gates
+pub mod Meanings
+pub mod Forms

@@ -1,0 +1,118 @@
+// How a command ends.
+ghost use Rattle.std.specs.Prelude.{◌≡◌};
+ghost use Rattle.command_core.specs.Exits.{exit_of};
+ghost use Rattle.command_core.specs.Stops.{is_want};
+ghost use Rattle.command_core.specs.declared.status.Stop.{Stop};
+
+use element_laws::Broken;
+use flat_text::FlatFault;
+use gas_model::{ModelFault, NoMemory};
+use setting_text::SettingFault;
+use tree_cert::TreeFault;
+
+/// An input file of a command.
+#[derive(Clone, Copy, Debug, PartialEq, Eq)]
+pub enum InputFile {
+    /// The flat problem.
+    Flat,
+    /// The setting.
+    SettingFile,
+    /// The refutation tree.
+    TreeFile,
+}
+
+/// Why an input file stands for nothing. In a status or a stop none of these is want of memory.
+#[derive(Debug, Drop)]
+pub enum InputFault {
+    OfFlat(FlatFault),
+    OfSetting(SettingFault),
+}
+
+impl InputFault {
+    // Whether it says only that memory ran out.
+    pub fn is_want(&self) -> bool
+        ensures { result ≡ is_want self.now }
+    {
+        matches!(
+            self,
+            InputFault::OfFlat(FlatFault::NoMemory | FlatFault::Model(ModelFault::NoMemory))
+                | InputFault::OfSetting(SettingFault::NoMemory)
+        )
+    }
+}
+
+/// Why a text is no refutation. None of these is want of memory.
+#[derive(Clone, Copy, Debug, PartialEq, Eq)]
+pub enum NotFault {
+    /// The first line at fault.
+    Tree(TreeFault),
+    /// It passes, but leaves boxes open, the first at this line.
+    Left { line: u64 },
+}
+
+/// How a command ended.
+#[derive(Debug, Drop)]
+pub enum Status {
+    /// OUT holds a setting that carries the nomination within the tolerance.
+    Accepted,
+    /// OUT holds a refutation tree: nothing carries the nomination.
+    Rejected,
+    /// Neither was found. No file was made.
+    Unfinished,
+    /// The setting carries the nomination within the tolerance.
+    Kept,
+    /// The setting doesn't. This is the first law that it breaks.
+    Broken(Broken),
+    /// The tree passes and leaves no box open: nothing carries the nomination.
+    Passes,
+    /// The text is no refutation of the problem.
+    NotRefutation(NotFault),
+    /// The words aren't in plain form: no plain words begin as these do up to the word of this number, from 0.
+    Usage { at: u64 },
+    /// The first input file that stands for nothing, and why.
+    BadInput { file: InputFile, fault: InputFault },
+    /// The file is longer than 67,108,864 bytes.
+    TooLong { file: InputFile },
+    /// An input file could not be read.
+    ReadFault,
+    /// Memory could not be had.
+    NoMemory,
+    /// OUT or the line could not be written.
+    WriteFault,
+}
+
+impl Status {
+    /// The exit status of the program.
+    pub fn exit(&self) -> u8
+        ensures { result ≡ exit_of self.now }
+    {
+        match self {
+            Status::Accepted | Status::Kept | Status::Passes => 0,
+            Status::Rejected => 1,
+            Status::Unfinished => 2,
+            Status::Broken(_) | Status::NotRefutation(_) => 3,
+            Status::Usage { .. } => 64,
+            Status::BadInput { .. } | Status::TooLong { .. } => 65,
+            Status::ReadFault => 66,
+            Status::NoMemory => 71,
+            Status::WriteFault => 74,
+        }
+    }
+}
+
+/// Why a command has no answer, before anything is written.
+#[derive(Debug, Drop)]
+pub enum Stop {
+    BadInput { file: InputFile, fault: InputFault },
+    TooLong { file: InputFile },
+    ReadFault,
+    NoMemory,
+}
+
+impl From<NoMemory> for Stop {
+    ghost from_gives = { λ _ stop. stop ≡ Stop.NoMemory };
+
+    fn from(_: NoMemory) -> Self {
+        Stop::NoMemory
+    }
+}

@@ -1,0 +1,344 @@
+-- The place of a wrong word: some plain words begin so up to it, and none up to a later one.
+use Rattle.std.proofs.Common.{◌≡◌, ◌∙◌, sym, ap, subst, refl, ℕ, ◌+◌, Bool, true, false, cond, List, [], ◌∷◌, ◌++◌, length, ◌⊎◌, inl, inr, arith, append_assoc}
+use Rattle.std.specs.Prelude.{Option, None, Some, Result, Ok, Err, codes, ◌&&◌, is_none, nat_le}
+use Rattle.std.specs.Str.{bytes_eq}
+use Rattle.line_text.specs.Numerals.{natural}
+use Rattle.nomval.specs.declared.words.Choice.{Choice}
+use Rattle.nomval.specs.declared.words.Choice.TheVariants.{Tol}
+use Rattle.nomval.specs.Sources.{Origin, flat}
+use Rattle.nomval.specs.Plain.{Words, Options, Plain, solve, replay, check, ◌>>=◌, is_file_word, file_at, no_more, option_in, give, options_at, none_given, tolerance_of, flat_source, flat_then, solve_words, replay_words, check_words, plain, BeginPlain, IsPlace}
+
+abbrev err : (X : Type 0) → ℕ → Result X ℕ
+err X n = Err n
+
+abbrev with_tol : ℕ → Result Options ℕ
+with_tol tol = Ok (record { tol = Some tol })
+
+abbrev with_file : List ℕ → Words → Result (Origin × Words) ℕ
+with_file name words = Ok (flat name, words)
+
+-- these words leave the form that f reads at word `at`, where the first of them is word n
+record IsStop {X : Type 0} (n : ℕ) (f : Words → Result X ℕ) (words : Words) (at : ℕ) : Type 0 where
+  front : Words
+  rest : Words
+  parts : words ≡ front ++ rest
+  place : at ≡ n + length front
+  more : Words
+  read : X
+  begins : f (front ++ more) ≡ Ok read
+  no_later : (word : List ℕ) (later tail : Words) (x : X) → rest ≡ word ∷ later → f (front ++ word ∷ tail) ≡ Ok x → ⊥
+
+-- f reads some words, from word n on, and names the place where others leave its form
+record Stops {X : Type 0} (n : ℕ) (f : Words → Result X ℕ) : Type 0 where
+  words : Words
+  read : X
+  reads : f words ≡ Ok read
+  stop : (ws : Words) (at : ℕ) → f ws ≡ Err at → IsStop n f ws at
+
+-- at the first word
+first_stop : {X : Type 0} (n : ℕ) (f : Words → Result X ℕ) (ws : Words) (at : ℕ) (more : Words) (read : X) → at ≡ n → f more ≡ Ok read
+    → ((word : List ℕ) (later tail : Words) (x : X) → ws ≡ word ∷ later → f (word ∷ tail) ≡ Ok x → ⊥) → IsStop n f ws at
+first_stop n f ws at more read here reads none = record {
+  front = [];
+  rest = ws;
+  parts = refl;
+  place = here ∙ omega arith;
+  more = more;
+  read = read;
+  begins = reads;
+  no_later = none;
+}
+
+-- after the first word
+later_stop : {X : Type 0} (n : ℕ) (f g : Words → Result X ℕ) (word : List ℕ) (ws : Words) (at : ℕ) → ((tail : Words) → f (word ∷ tail) ≡ g tail)
+    → IsStop (n + 1) g ws at → IsStop n f (word ∷ ws) at
+later_stop n f g word ws at same s = record {
+  front = word ∷ s.front;
+  rest = s.rest;
+  parts = ap (λ (x : Words). word ∷ x) s.parts;
+  place = (let e = s.place in omega (arith, e));
+  more = s.more;
+  read = s.read;
+  begins = same (s.front ++ s.more) ∙ s.begins;
+  no_later = λ w later tail x e h. s.no_later w later tail x e (sym (same (s.front ++ w ∷ tail)) ∙ h);
+}
+
+-- of functions that read alike
+same_stops : {X : Type 0} (n : ℕ) (f g : Words → Result X ℕ) → ((ws : Words) → f ws ≡ g ws) → Stops n g → Stops n f
+same_stops n f g same s = record {
+  words = s.words;
+  read = s.read;
+  reads = same s.words ∙ s.reads;
+  stop = λ ws at e. let t = s.stop ws at (sym (same ws) ∙ e) in record {
+    front = t.front;
+    rest = t.rest;
+    parts = t.parts;
+    place = t.place;
+    more = t.more;
+    read = t.read;
+    begins = same (t.front ++ t.more) ∙ t.begins;
+    no_later = λ w later tail x is h. t.no_later w later tail x is (sym (same (t.front ++ w ∷ tail)) ∙ h);
+  };
+}
+
+-- with another result
+map_stops : {X Y : Type 0} (n : ℕ) (f : Words → Result X ℕ) (g : X → Y) → Stops n f → Stops n (λ ws. f ws >>= λ x. Ok (g x))
+map_stops {X} {Y} n f g s = record {
+  words = s.words;
+  read = g s.read;
+  reads = ap (λ (r : Result X ℕ). r >>= λ x. Ok (g x)) s.reads;
+  stop = λ ws at e. let t = s.stop ws at (unmapped (f ws) at e) in record {
+    front = t.front;
+    rest = t.rest;
+    parts = t.parts;
+    place = t.place;
+    more = t.more;
+    read = g t.read;
+    begins = ap (λ (r : Result X ℕ). r >>= λ x. Ok (g x)) t.begins;
+    no_later = λ w later tail y is h. (let o = was_read (f (t.front ++ w ∷ tail)) y h in t.no_later w later tail o.0 is o.1);
+  };
+}
+  where
+    unmapped : (r : Result X ℕ) (at : ℕ) → (r >>= λ x. Ok (g x)) ≡ Err at → r ≡ Err at
+    unmapped (Ok x) at e = absurd (cc)
+    unmapped (Err n) at e = (let same : n ≡ at = cc in ap Err same)
+
+    was_read : (r : Result X ℕ) (y : Y) → (r >>= λ x. Ok (g x)) ≡ Ok y → (x : X) × (r ≡ Ok x)
+    was_read (Ok x) y e = (x, refl)
+    was_read (Err n) y e = absurd (cc)
+
+-- a word that names a file
+a_file : List ℕ
+a_file = 97 ∷ []
+
+wrong_first : {X : Type 0} (n at : ℕ) → err X n ≡ Err at → at ≡ n
+wrong_first n at e = let same : n ≡ at = cc in sym same
+
+module _ {X : Type 0} (n : ℕ) (next : List ℕ → Words → Result X ℕ) (s : (name : List ℕ) → Stops (n + 1) (next name)) where
+  then_next : Result (List ℕ × Words) ℕ → Result X ℕ
+  then_next r = r >>= λ x. next x.0 x.1
+
+  file_then : Words → Result X ℕ
+  file_then ws = file_at n ws >>= λ x. next x.0 x.1
+
+  reads_on : (word : List ℕ) (tail : Words) → is_file_word word ≡ true → file_then (word ∷ tail) ≡ next word tail
+  unfolding file_then then_next
+  reads_on word tail e = ap (λ b. then_next (cond b (Ok (word, tail)) (Err n))) e
+
+  no_file : (word : List ℕ) (tail : Words) → is_file_word word ≡ false → file_then (word ∷ tail) ≡ Err n
+  unfolding file_then then_next
+  no_file word tail e = ap (λ b. then_next (cond b (Ok (word, tail)) (Err n))) e
+
+  reads_some : file_then (a_file ∷ (s a_file).words) ≡ Ok (s a_file).read
+  unfolding file_then a_file
+  reads_some = (s (97 ∷ [])).reads
+
+  file_stop : (ws : Words) (at : ℕ) → file_then ws ≡ Err at → IsStop n file_then ws at
+  unfolding file_then
+  file_stop [] at e = first_stop n file_then [] at (a_file ∷ (s a_file).words) (s a_file).read (wrong_first n at e) reads_some (λ word later tail x is h. cc)
+  file_stop (w ∷ ws) at e = by (is_file_word w) refl
+    where
+      by : (b : Bool) → is_file_word w ≡ b → IsStop n file_then (w ∷ ws) at
+      by true t = later_stop n file_then (next w) w ws at (λ tail. reads_on w tail t) ((s w).stop ws at (sym (reads_on w ws t) ∙ e))
+      by false t = first_stop n file_then (w ∷ ws) at (a_file ∷ (s a_file).words) (s a_file).read (wrong_first n at (sym (no_file w ws t) ∙ e)) reads_some
+          (λ word later tail x is h. let same : w ≡ word = cc in let bad : Err n ≡ Ok x = sym (no_file word tail (subst (λ y. is_file_word y ≡ false) same t)) ∙ h in cc)
+
+  -- a word that names a file, and others
+  file_stops : Stops n (λ ws. file_at n ws >>= λ x. next x.0 x.1)
+  unfolding file_then
+  file_stops = record { words = a_file ∷ (s a_file).words; read = (s a_file).read; reads = reads_some; stop = file_stop }
+
+-- no word more
+end_stops : (n : ℕ) → Stops n (no_more n)
+end_stops n = record { words = []; read = tt; reads = refl; stop = stop }
+  where
+    stop : (ws : Words) (at : ℕ) → no_more n ws ≡ Err at → IsStop n (no_more n) ws at
+    stop [] at e = absurd (cc)
+    stop (w ∷ ws) at e = first_stop n (no_more n) (w ∷ ws) at [] tt (wrong_first n at e) refl (λ word later tail x is h. cc)
+
+-- an option that isn't one is named by its place
+option_place : (n : ℕ) (given : Options) (word : List ℕ) (at : ℕ) → option_in n given word ≡ Err at → at ≡ n
+option_place n given word at e = by (is_none given.tol && bytes_eq word (codes "--tol")) e
+  where
+    by : (b : Bool) → cond b (Ok Tol) (err Choice n) ≡ Err at → at ≡ n
+    by true h = absurd (cc)
+    by false h = let same : n ≡ at = cc in sym same
+
+-- a wrong number by its own
+number_place : (n : ℕ) (option : Choice) (given : Options) (number : Option ℕ) (at : ℕ) → give n option given number ≡ Err at → at ≡ n
+number_place n Tol given None at e = let same : n ≡ at = cc in sym same
+number_place n Tol given (Some tol) at e = by (nat_le tol 10000000000000000) e
+  where
+    by : (b : Bool) → (cond b (Ok tol) (err ℕ n) >>= λ t. with_tol t) ≡ Err at → at ≡ n
+    by true h = absurd (cc)
+    by false h = let same : n ≡ at = cc in sym same
+
+-- each option takes the number 0
+zero_word : List ℕ
+zero_word = 48 ∷ []
+
+takes_zero : (n : ℕ) (option : Choice) (given : Options) → (next : Options) × (give n option given (natural zero_word) ≡ Ok next)
+unfolding zero_word
+takes_zero n Tol given = (record { tol = Some 0 }, refl)
+
+option_other : (n : ℕ) (given : Options) (word : List ℕ) (words : Words) (at : ℕ) (x : Options) → option_in n given word ≡ Err at → options_at n given (word ∷ words) ≡ Ok x → ⊥
+option_other n given word [] at x e h = let bad : Err at ≡ Ok x = sym (ap (λ (r : Result Choice ℕ). r >>= λ option. err Options (n + 1)) e) ∙ h in cc
+option_other n given word (number ∷ words) at x e h =
+    let bad : Err at ≡ Ok x = sym (ap (λ (r : Result Choice ℕ). r >>= λ option. give (n + 1) option given (natural number) >>= λ more. options_at (n + 2) more words) e) ∙ h in cc
+
+-- a word that isn't an option here
+module _ (n : ℕ) (given : Options) (w : List ℕ) (ws : Words) (at k : ℕ) (t : option_in n given w ≡ Err k) where
+  no_option : err Options k ≡ Err at → IsStop n (options_at n given) (w ∷ ws) at
+  no_option e =
+      let same : k ≡ at = cc in
+      first_stop n (options_at n given) (w ∷ ws) at [] given (sym same ∙ option_place n given w k t) refl
+      (λ word later tail x is h. let one : w ≡ word = cc in option_other n given word tail k x (subst (λ y. option_in n given y ≡ Err k) one t) h)
+
+-- an option, and its number
+module _ (n : ℕ) (given : Options) (w : List ℕ) (option : Choice) (t : option_in n given w ≡ Ok option) where
+  pub given_on : (number : List ℕ) (tail : Words) (r : Result Options ℕ) → give (n + 1) option given (natural number) ≡ r
+      → options_at n given (w ∷ number ∷ tail) ≡ (r >>= λ more. options_at (n + 2) more tail)
+  given_on number tail r u =
+      ap (λ (x : Result Choice ℕ). x >>= λ o. give (n + 1) o given (natural number) >>= λ more. options_at (n + 2) more tail) t
+      ∙ ap (λ (x : Result Options ℕ). x >>= λ more. options_at (n + 2) more tail) u
+
+  zero_given : Options
+  zero_given = (takes_zero (n + 1) option given).0
+
+  with_zero : options_at n given (w ∷ zero_word ∷ []) ≡ Ok zero_given
+  unfolding zero_given
+  with_zero = given_on zero_word [] (Ok zero_given) (takes_zero (n + 1) option given).1
+
+  no_number : (at : ℕ) → options_at n given (w ∷ []) ≡ Err at → IsStop n (options_at n given) (w ∷ []) at
+  no_number at e = record {
+    front = w ∷ [];
+    rest = [];
+    parts = refl;
+    place = (let same : Err (n + 1) ≡ Err at = sym (ap (λ (x : Result Choice ℕ). x >>= λ o. err Options (n + 1)) t) ∙ e in let k : n + 1 ≡ at = cc in sym k);
+    more = zero_word ∷ [];
+    read = zero_given;
+    begins = with_zero;
+    no_later = λ word later tail x is h. cc;
+  }
+
+  wrong_number : (number : List ℕ) (ws : Words) (at k : ℕ) → give (n + 1) option given (natural number) ≡ Err k → options_at n given (w ∷ number ∷ ws) ≡ Err at
+      → IsStop n (options_at n given) (w ∷ number ∷ ws) at
+  wrong_number number ws at k u e = record {
+    front = w ∷ [];
+    rest = number ∷ ws;
+    parts = refl;
+    place = (let same : Err k ≡ Err at = sym (given_on number ws (Err k) u) ∙ e in let j : k ≡ at = cc in sym j ∙ number_place (n + 1) option given (natural number) k u);
+    more = zero_word ∷ [];
+    read = zero_given;
+    begins = with_zero;
+    no_later = λ word later tail x is h.
+        let one : number ≡ word = cc in
+        let bad : Err k ≡ Ok x = sym (given_on word tail (Err k) (subst (λ y. give (n + 1) option given (natural y) ≡ Err k) one u)) ∙ h in cc;
+  }
+
+  after_number : (number : List ℕ) (ws : Words) (at : ℕ) (next : Options) → give (n + 1) option given (natural number) ≡ Ok next
+      → IsStop (n + 2) (options_at (n + 2) next) ws at → IsStop n (options_at n given) (w ∷ number ∷ ws) at
+  after_number number ws at next u s = record {
+    front = w ∷ number ∷ s.front;
+    rest = s.rest;
+    parts = ap (λ (x : Words). w ∷ number ∷ x) s.parts;
+    place = (let e = s.place in omega (arith, e));
+    more = s.more;
+    read = s.read;
+    begins = given_on number (s.front ++ s.more) (Ok next) u ∙ s.begins;
+    no_later = λ word later tail x is h. s.no_later word later tail x is (sym (given_on number (s.front ++ word ∷ tail) (Ok next) u) ∙ h);
+  }
+
+-- the options that follow an option and its number
+pub options_step : (n : ℕ) (given : Options) (words : Words) (w number : List ℕ) (tail : Words) (option : Choice) (more : Options) (r : Result Options ℕ) → words ≡ w ∷ number ∷ tail
+    → option_in n given w ≡ Ok option → give (n + 1) option given (natural number) ≡ Ok more → r ≡ options_at (n + 2) more tail → r ≡ options_at n given words
+options_step n given words w number tail option more r same t u e =
+    e ∙ sym (given_on n given w option t number tail (Ok more) u) ∙ ap (options_at n given) (sym same)
+
+one_option : (n : ℕ) (given : Options) (w : List ℕ) (at : ℕ) (r : Result Choice ℕ) → option_in n given w ≡ r → options_at n given (w ∷ []) ≡ Err at
+    → IsStop n (options_at n given) (w ∷ []) at
+one_option n given w at (Err k) t e = no_option n given w [] at k t (sym (ap (λ (x : Result Choice ℕ). x >>= λ o. err Options (n + 1)) t) ∙ e)
+one_option n given w at (Ok option) t e = no_number n given w option t at e
+
+numbered : (n : ℕ) (given : Options) (w number : List ℕ) (ws : Words) (at : ℕ) (option : Choice) (r : Result Options ℕ) → option_in n given w ≡ Ok option
+    → give (n + 1) option given (natural number) ≡ r → ((next : Options) → options_at (n + 2) next ws ≡ Err at → IsStop (n + 2) (options_at (n + 2) next) ws at)
+    → options_at n given (w ∷ number ∷ ws) ≡ Err at → IsStop n (options_at n given) (w ∷ number ∷ ws) at
+numbered n given w number ws at option (Err k) t u others e = wrong_number n given w option t number ws at k u e
+numbered n given w number ws at option (Ok next) t u others e =
+    after_number n given w option t number ws at next u (others next (sym (given_on n given w option t number ws (Ok next) u) ∙ e))
+
+more_options : (n : ℕ) (given : Options) (w number : List ℕ) (ws : Words) (at : ℕ) (r : Result Choice ℕ) → option_in n given w ≡ r
+    → ((next : Options) → options_at (n + 2) next ws ≡ Err at → IsStop (n + 2) (options_at (n + 2) next) ws at)
+    → options_at n given (w ∷ number ∷ ws) ≡ Err at → IsStop n (options_at n given) (w ∷ number ∷ ws) at
+more_options n given w number ws at (Err k) t others e =
+    no_option n given w (number ∷ ws) at k t (sym (ap (λ (x : Result Choice ℕ). x >>= λ o. give (n + 1) o given (natural number) >>= λ more. options_at (n + 2) more ws) t) ∙ e)
+more_options n given w number ws at (Ok option) t others e = numbered n given w number ws at option (give (n + 1) option given (natural number)) t refl others e
+
+options_stop : (n : ℕ) (given : Options) (ws : Words) (at : ℕ) → options_at n given ws ≡ Err at → IsStop n (options_at n given) ws at
+options_stop n given [] at e = absurd (cc)
+options_stop n given (w ∷ []) at e = one_option n given w at (option_in n given w) refl e
+options_stop n given (w ∷ number ∷ ws) at e = more_options n given w number ws at (option_in n given w) refl (λ next h. options_stop (n + 2) next ws at h) e
+
+options_stops : (n : ℕ) (given : Options) → Stops n (options_at n given)
+options_stops n given = record { words = []; read = given; reads = refl; stop = options_stop n given }
+
+-- the words of each command
+solve_stops : (n : ℕ) (origin : Origin) → Stops n (solve_words n origin)
+solve_stops n origin = file_stops n (λ out ws. options_at (n + 1) none_given ws >>= λ given. Ok (solve origin out (tolerance_of given)))
+    (λ out. map_stops (n + 1) (options_at (n + 1) none_given) (λ given. solve origin out (tolerance_of given)) (options_stops (n + 1) none_given))
+
+replay_stops : (n : ℕ) (origin : Origin) → Stops n (replay_words n origin)
+replay_stops n origin = file_stops n (λ setting ws. options_at (n + 1) none_given ws >>= λ given. Ok (replay origin setting (tolerance_of given)))
+    (λ setting. map_stops (n + 1) (options_at (n + 1) none_given) (λ given. replay origin setting (tolerance_of given)) (options_stops (n + 1) none_given))
+
+check_stops : (n : ℕ) (origin : Origin) → Stops n (check_words n origin)
+check_stops n origin = file_stops n (λ tree ws. no_more (n + 1) ws >>= λ end. Ok (check origin tree))
+    (λ tree. map_stops (n + 1) (no_more (n + 1)) (λ end. check origin tree) (end_stops (n + 1)))
+
+-- from word 1 on, with a flat problem
+flat_stops : (next : ℕ → Origin → Words → Result Plain ℕ) → ((origin : Origin) → Stops 2 (next 2 origin)) → Stops 1 (flat_then next)
+flat_stops next s = same_stops 1 (flat_then next) (λ ws. file_at 1 ws >>= λ x. next 2 (flat x.0) x.1) (λ ws. by (file_at 1 ws))
+    (file_stops 1 (λ name ws. next 2 (flat name) ws) (λ name. s (flat name)))
+  where
+    by : (r : Result (List ℕ × Words) ℕ) → ((r >>= λ file. with_file file.0 file.1) >>= λ begun. next 2 begun.0 begun.1) ≡ (r >>= λ x. next 2 (flat x.0) x.1)
+    by (Ok x) = refl
+    by (Err n) = refl
+
+-- a command by its name, or another
+choice : (b : Bool) (f g : Words → Result Plain ℕ) → Stops 1 f → Stops 1 g ⊎ ((ws : Words) → g ws ≡ Err 0) → Stops 1 (λ ws. cond b (f ws) (g ws)) ⊎ ((ws : Words) → cond b (f ws) (g ws) ≡ Err 0)
+choice true f g s others = inl s
+choice false f g s others = others
+
+command_stops : (word : List ℕ) → Stops 1 (λ ws. plain (word ∷ ws)) ⊎ ((ws : Words) → plain (word ∷ ws) ≡ Err 0)
+command_stops word =
+    choice (bytes_eq word (codes "solve-flat")) (flat_then solve_words) (λ ws. cond (bytes_eq word (codes "replay-flat")) (flat_then replay_words ws) (cond (bytes_eq word (codes "check-flat")) (flat_then check_words ws) (Err 0))) (flat_stops solve_words (solve_stops 2))
+    (choice (bytes_eq word (codes "replay-flat")) (flat_then replay_words) (λ ws. cond (bytes_eq word (codes "check-flat")) (flat_then check_words ws) (Err 0)) (flat_stops replay_words (replay_stops 2))
+    (choice (bytes_eq word (codes "check-flat")) (flat_then check_words) (λ ws. Err 0) (flat_stops check_words (check_stops 2))
+    (inr (λ ws. refl))))
+
+-- some words are plain
+plain_words : Words
+plain_words = codes "check-flat" ∷ (97 ∷ []) ∷ (97 ∷ []) ∷ []
+
+plain_stop : (words : Words) (at : ℕ) → plain words ≡ Err at → IsStop 0 plain words at
+unfolding plain_words
+plain_stop [] at e = first_stop 0 plain [] at plain_words (check (flat (97 ∷ [])) (97 ∷ [])) (wrong_first 0 at e) refl (λ word later tail x is h. cc)
+plain_stop (word ∷ ws) at e = by (command_stops word)
+  where
+    by : Stops 1 (λ ws. plain (word ∷ ws)) ⊎ ((ws : Words) → plain (word ∷ ws) ≡ Err 0) → IsStop 0 plain (word ∷ ws) at
+    by (inl s) = later_stop 0 plain (λ ws. plain (word ∷ ws)) word ws at (λ tail. refl) (s.stop ws at e)
+    by (inr none) = first_stop 0 plain (word ∷ ws) at plain_words (check (flat (97 ∷ [])) (97 ∷ [])) (wrong_first 0 at (sym (none ws) ∙ e)) refl
+        (λ w later tail x is h. let same : word ≡ w = cc in let bad : Err 0 ≡ Ok x = sym (none tail) ∙ subst (λ y. plain (y ∷ tail) ≡ Ok x) (sym same) h in cc)
+
+pub place_of : (words : Words) (at : ℕ) → plain words ≡ Err at → IsPlace at words
+place_of words at e =
+    let s = plain_stop words at e in
+    record {
+      front = s.front;
+      rest = s.rest;
+      parts = s.parts;
+      before = (let p = s.place in omega (arith, p));
+      begins = record { more = s.more; command = s.read; is_plain = s.begins };
+      no_later = λ word later is b. s.no_later word later b.more b.command is (subst (λ x. plain x ≡ Ok b.command) (append_assoc s.front (word ∷ []) b.more) b.is_plain);
+      not_plain = λ c h. cc;
+    }

@@ -1,0 +1,15 @@
+//! Examples of the program's commands, over files in memory.
+#![tactic(auto)]
+
+#[cfg(test)]
+mod checking;
+#[cfg(test)]
+mod desks;
+#[cfg(test)]
+mod faults;
+#[cfg(test)]
+mod replaying;
+#[cfg(test)]
+mod solving;
+#[cfg(test)]
+mod wording;
