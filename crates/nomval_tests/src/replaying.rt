@@ -73,9 +73,14 @@ fn a_setting_is_replayed(rt: HostRuntime) -> Result<(), Fail> {
 fn each_kind_of_arc_carries_its_flow(rt: HostRuntime) -> Result<(), Fail> {
     let alloc = rt.alloc();
     for (lines, setting, tol) in [
-        // 25 - 9 = 16 lies between 1 * 9 and 2 * 9.
+        // 25 - 9 = 16 lies between 1 * 9 and 2 * 9, in a resistor and in a pipe.
         (
             "node a 5 5 3 3\nnode b 3 3 -3 -3\ndrag p a b -10 10 1 2 1\n",
+            "{\"arcs\":[[\"p\",\"open\",3]],\"decisions\":[],\"nodes\":[[\"a\",25],[\"b\",9]]}",
+            "0",
+        ),
+        (
+            "node a 5 5 3 3\nnode b 3 3 -3 -3\npipe p a b -10 10 1 2 1\n",
             "{\"arcs\":[[\"p\",\"open\",3]],\"decisions\":[],\"nodes\":[[\"a\",25],[\"b\",9]]}",
             "0",
         ),
