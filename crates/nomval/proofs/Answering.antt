@@ -1,22 +1,26 @@
 -- What the headline says, of the one command that answers so.
-use Rattle.std.proofs.Common.{◌≡◌, ◌∙◌, ap, subst, append_assoc, ℕ, List, [], ◌∷◌, ◌++◌}
+use Rattle.std.proofs.Common.{◌≡◌, subst, append_assoc, ℕ, List, [], ◌∷◌, ◌++◌, pos}
 use Rattle.std.proofs.lemmas.List.{append-nil}
-use Rattle.std.specs.Prelude.{true, Ok, Some, codes}
+use Rattle.std.specs.Prelude.{Ok, Some, codes}
+use Rattle.gas_model.specs.declared.rows.Setting.{Setting}
+use Rattle.gas_model.specs.Rows.{Network}
+use Rattle.gas_model.specs.Near.{IsNear}
 use Rattle.gas_desk.specs.Outside.{Outside}
 use Rattle.element_laws.specs.declared.broken.Broken.{Broken}
 use Rattle.command_core.specs.declared.status.NotFault.{NotFault}
 use Rattle.command_core.specs.declared.status.Status.TheVariants as ends
+use Rattle.command_core.specs.Forms.{WritesOne}
+use Rattle.command_core.specs.Gates.{any_bytes, file_is, stands}
 use Rattle.command_core.specs.Lines.{law_word, not_text}
-use Rattle.command_core.specs.Meanings.{Answered, AllWritten, Says, Texts}
+use Rattle.command_core.specs.Meanings.{Answered, AllWritten, Distinct, Says, Texts}
+use Rattle.nomval.specs.Check.{IsNoRefutation, PassesIt}
 use Rattle.nomval.specs.Commands.{meaning}
 use Rattle.nomval.specs.Named.{id_of}
-use Rattle.nomval.specs.Headline.{HasCarried, HasRefuted, LeavesOpen, IsKept, IsBroken, HasPassed, HasNotPassed}
+use Rattle.nomval.specs.Headline.{Writes, HasCarried, HasRefuted, LeavesOpen, Replayed, IsKept, IsBroken, Checked, HasPassed, HasNotPassed}
+use Rattle.nomval.specs.Replay.{BreaksFirst, setting_is}
+use Rattle.nomval.specs.Solve.{Carries, Refutes}
+use Rattle.nomval.specs.Sources.{Origin, problem_is}
 use Rattle.nomval.specs.Plain.{Words, Plain, solve, replay, check, plain}
-
--- one OUT and its text
-one_held : (out text : List ℕ) (texts : Texts) (before now : Outside) → texts ≡ Some text ∷ [] → AllWritten (out ∷ []) texts before now → (now.files out ≡ Some text) × (now.finished out ≡ true)
-one_held out text texts before now e held =
-    let all : AllWritten (out ∷ []) (Some text ∷ []) before now = subst (λ (x : Texts). AllWritten (out ∷ []) x before now) e held in all.0
 
 -- a line with this beside it
 line_with : (line beside note : List ℕ) (before now : Outside) → note ≡ beside → Says (line ++ note) before now → Says (line ++ beside) before now
@@ -26,38 +30,69 @@ line_with line beside note before now e said = subst (λ (x : List ℕ). Says (l
 line_alone : (line note : List ℕ) (before now : Outside) → note ≡ [] → Says (line ++ note) before now → Says line before now
 line_alone line note before now e said = subst (λ (x : List ℕ). Says x before now) (append-nil line) (line_with line [] note before now e said)
 
+-- an OUT with a text of this kind
+written : (IsText : ℕ → Network → List ℕ → Type 0) (line : List ℕ) (words : Words) (origin : Origin) (out : List ℕ) (tol : ℕ) (before now : Outside) (p : Network) (note : List ℕ) (texts : Texts)
+    → plain words ≡ Ok (solve origin out tol) → problem_is origin before.files ≡ stands p → WritesOne (IsText tol p) note texts
+    → (Distinct (out ∷ []) → AllWritten (out ∷ []) texts before now) → Says (line ++ note) before now → Writes IsText line words before now
+written IsText line words origin out tol before now p note texts e is w held said =
+    let all : AllWritten (out ∷ []) (Some w.text ∷ []) before now = subst (λ (x : Texts). AllWritten (out ∷ []) x before now) w.one (held (tt, tt)) in
+    record {
+      origin = origin;
+      out = out;
+      tol = tol;
+      problem = p;
+      text = w.text;
+      is_plain = e;
+      stands_for = is;
+      is_text = w.is_text;
+      holds = all.0.0;
+      finished = all.0.1;
+      said = line_alone line note before now w.no_note said;
+    }
+
+-- a setting of which this holds
+replayed : (Holds : ℕ → Network → Setting → Type 0) (line : Network → List ℕ) (words : Words) (origin : Origin) (name : List ℕ) (tol : ℕ) (before now : Outside) (p : Network) (s : Setting)
+    → plain words ≡ Ok (replay origin name tol) → problem_is origin before.files ≡ stands p → setting_is origin name before.files ≡ stands s
+    → Holds tol p s → Says (line p) before now → Replayed Holds line words before now
+replayed Holds line words origin name tol before now p s e is setting_stands holds said = record {
+  origin = origin;
+  name = name;
+  tol = tol;
+  problem = p;
+  setting = s;
+  is_plain = e;
+  stands_for = is;
+  setting_stands = setting_stands;
+  holds = holds;
+  said = said;
+}
+
+-- a tree of which this holds
+checked : (Holds : Network → List ℕ → Type 0) (line : List ℕ) (words : Words) (origin : Origin) (name : List ℕ) (before now : Outside) (p : Network) (tree note : List ℕ)
+    → plain words ≡ Ok (check origin name) → problem_is origin before.files ≡ stands p → file_is any_bytes (before.files name) ≡ stands tree
+    → Holds p tree → note ≡ [] → Says (line ++ note) before now → Checked Holds line words before now
+checked Holds line words origin name before now p tree note e is tree_is holds no_note said = record {
+  origin = origin;
+  name = name;
+  problem = p;
+  tree = tree;
+  is_plain = e;
+  stands_for = is;
+  tree_is = tree_is;
+  holds = holds;
+  said = line_alone line note before now no_note said;
+}
+
 pub carried_at : (words : Words) (c : Plain) (before now : Outside) → plain words ≡ Ok c
     → (meaning c).may ends.Accepted → Answered (meaning c) before now ends.Accepted → HasCarried words before now
-carried_at words (solve origin out tol) before now e own a = let w = a.answers.says in record {
-  origin = origin;
-  out = out;
-  tol = tol;
-  problem = a.answers.problem;
-  text = w.text;
-  is_plain = e;
-  stands_for = a.answers.stands_for;
-  is_text = w.is_text;
-  holds = (one_held out w.text a.texts before now w.one (a.held (tt, tt))).0;
-  finished = (one_held out w.text a.texts before now w.one (a.held (tt, tt))).1;
-  said = line_alone (codes "accepted") a.note before now w.no_note a.said;
-}
+carried_at words (solve origin out tol) before now e own a =
+    written Carries (codes "accepted") words origin out tol before now a.answers.problem a.note a.texts e a.answers.stands_for a.answers.says a.held a.said
 carried_at words c before now e own a = absurd own
 
 pub refuted_at : (words : Words) (c : Plain) (before now : Outside) → plain words ≡ Ok c
     → (meaning c).may ends.Rejected → Answered (meaning c) before now ends.Rejected → HasRefuted words before now
-refuted_at words (solve origin out tol) before now e own a = let w = a.answers.says in record {
-  origin = origin;
-  out = out;
-  tol = tol;
-  problem = a.answers.problem;
-  text = w.text;
-  is_plain = e;
-  stands_for = a.answers.stands_for;
-  is_text = w.is_text;
-  holds = (one_held out w.text a.texts before now w.one (a.held (tt, tt))).0;
-  finished = (one_held out w.text a.texts before now w.one (a.held (tt, tt))).1;
-  said = line_alone (codes "rejected") a.note before now w.no_note a.said;
-}
+refuted_at words (solve origin out tol) before now e own a =
+    written (λ _. Refutes) (codes "rejected") words origin out tol before now a.answers.problem a.note a.texts e a.answers.stands_for a.answers.says a.held a.said
 refuted_at words c before now e own a = absurd own
 
 pub open_at : (words : Words) (c : Plain) (before now : Outside) → plain words ≡ Ok c
@@ -76,62 +111,26 @@ open_at words c before now e own a = absurd own
 
 pub kept_at : (words : Words) (c : Plain) (before now : Outside) → plain words ≡ Ok c
     → (meaning c).may ends.Kept → Answered (meaning c) before now ends.Kept → IsKept words before now
-kept_at words (replay origin name tol) before now e own a = let w = a.answers.says in record {
-  origin = origin;
-  name = name;
-  tol = tol;
-  problem = a.answers.problem;
-  setting = a.answers.setting;
-  is_plain = e;
-  stands_for = a.answers.stands_for;
-  setting_stands = a.answers.setting_stands;
-  holds = w.holds;
-  said = line_alone (codes "kept") a.note before now w.noted a.said;
-}
+kept_at words (replay origin name tol) before now e own a =
+    replayed (λ tol p s. IsNear p (pos tol) s) (λ p. codes "kept") words origin name tol before now a.answers.problem a.answers.setting e a.answers.stands_for a.answers.setting_stands a.answers.says.holds
+    (line_alone (codes "kept") a.note before now a.answers.says.noted a.said)
 kept_at words c before now e own a = absurd own
 
 pub broken_at : (law : Broken) (words : Words) (c : Plain) (before now : Outside) → plain words ≡ Ok c
     → (meaning c).may (ends.Broken law) → Answered (meaning c) before now (ends.Broken law) → IsBroken law words before now
-broken_at law words (replay origin name tol) before now e own a = let w = a.answers.says in record {
-  origin = origin;
-  name = name;
-  tol = tol;
-  problem = a.answers.problem;
-  setting = a.answers.setting;
-  is_plain = e;
-  stands_for = a.answers.stands_for;
-  setting_stands = a.answers.setting_stands;
-  holds = w.holds;
-  said = subst (λ (x : List ℕ). Says x before now) (append_assoc (codes "broken ") (law_word law) (id_of a.answers.problem law)) (line_with (codes "broken " ++ law_word law) (id_of a.answers.problem law) a.note before now w.noted a.said);
-}
+broken_at law words (replay origin name tol) before now e own a =
+    replayed (BreaksFirst law) (λ p. codes "broken " ++ law_word law ++ id_of p law) words origin name tol before now a.answers.problem a.answers.setting e a.answers.stands_for a.answers.setting_stands a.answers.says.holds
+    (subst (λ (x : List ℕ). Says x before now) (append_assoc (codes "broken ") (law_word law) (id_of a.answers.problem law)) (line_with (codes "broken " ++ law_word law) (id_of a.answers.problem law) a.note before now a.answers.says.noted a.said))
 broken_at law words c before now e own a = absurd own
 
 pub passed_at : (words : Words) (c : Plain) (before now : Outside) → plain words ≡ Ok c
     → (meaning c).may ends.Passes → Answered (meaning c) before now ends.Passes → HasPassed words before now
-passed_at words (check origin name) before now e own a = let w = a.answers.says in record {
-  origin = origin;
-  name = name;
-  problem = a.answers.problem;
-  tree = a.answers.tree;
-  is_plain = e;
-  stands_for = a.answers.stands_for;
-  tree_is = a.answers.tree_is;
-  holds = w.holds;
-  said = line_alone (codes "passes") a.note before now w.noted a.said;
-}
+passed_at words (check origin name) before now e own a =
+    checked PassesIt (codes "passes") words origin name before now a.answers.problem a.answers.tree a.note e a.answers.stands_for a.answers.tree_is a.answers.says.holds a.answers.says.noted a.said
 passed_at words c before now e own a = absurd own
 
 pub not_passed_at : (fault : NotFault) (words : Words) (c : Plain) (before now : Outside) → plain words ≡ Ok c
     → (meaning c).may (ends.NotRefutation fault) → Answered (meaning c) before now (ends.NotRefutation fault) → HasNotPassed fault words before now
-not_passed_at fault words (check origin name) before now e own a = let w = a.answers.says in record {
-  origin = origin;
-  name = name;
-  problem = a.answers.problem;
-  tree = a.answers.tree;
-  is_plain = e;
-  stands_for = a.answers.stands_for;
-  tree_is = a.answers.tree_is;
-  holds = w.holds;
-  said = line_alone (codes "not refutation " ++ not_text fault) a.note before now w.noted a.said;
-}
+not_passed_at fault words (check origin name) before now e own a =
+    checked (λ p text. IsNoRefutation p text fault) (codes "not refutation " ++ not_text fault) words origin name before now a.answers.problem a.answers.tree a.note e a.answers.stands_for a.answers.tree_is a.answers.says.holds a.answers.says.noted a.said
 not_passed_at fault words c before now e own a = absurd own

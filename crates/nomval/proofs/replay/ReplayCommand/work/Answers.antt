@@ -1,7 +1,6 @@
 use Rattle.std.proofs.Common.{[], ◌∷◌, ◌++◌}
 use Rattle.std.proofs.lemmas.Result.{err_from_is_err_and}
 use Rattle.command_core.proofs.Walks.{reads_want}
-
 use Rattle.nomval.specs.Replay.{setting_gate}
 use Rattle.nomval.specs.Sources.{origin_of, problem_gates}
 use Rattle.nomval.proofs.Replaying.{replays_does, setting_before, setting_reads}
