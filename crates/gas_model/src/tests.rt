@@ -140,114 +140,7 @@ fn the_first_offence_is_answered(rt: HostRuntime) -> Result<(), Fail> {
     Ok(())
 }
 
-// An id of so many bytes.
-fn long_id(alloc: Global, count: usize) -> Result<Name, NoMemory> {
-    let mut id = Name::new(alloc);
-    for _ in 0..count {
-        id.push_text("x")?;
-    }
-    Ok(id)
-}
-
-#[test]
-fn id_of_201_bytes_is_too_long(rt: HostRuntime) -> Result<(), Fail> {
-    let alloc = rt.alloc();
-    let longest = long_id(alloc, 200)?;
-    let long = long_id(alloc, 201)?;
-    let offences = [
-        offence(alloc, longest.as_str(), 9, "a", longest.as_str())?,
-        offence(alloc, long.as_str(), 9, "a", long.as_str())?,
-    ];
-    assert_eq!(rt; offences, ["none", "over limit"]);
-    Ok(())
-}
-
-// So many nodes, pipes and groups, each of so many decisions; all without an id.
-fn many_rows(
-    alloc: Global,
-    node_count: usize,
-    arc_count: usize,
-    group_count: usize,
-    decision_count: usize,
-) -> Result<Rows, NoMemory> {
-    let mut nodes = List::new(alloc);
-    for _ in 0..node_count {
-        nodes.push(node(alloc, "", 9)?)?;
-    }
-    let mut arcs = List::new(alloc);
-    for _ in 0..arc_count {
-        arcs.push(arc(alloc, "", "", "", PIPE)?)?;
-    }
-    Ok(Rows {
-        nodes,
-        arcs,
-        groups: many_groups(alloc, group_count, decision_count)?,
-    })
-}
-
-fn many_groups(
-    alloc: Global,
-    group_count: usize,
-    decision_count: usize,
-) -> Result<List<GroupText>, NoMemory> {
-    let mut groups = List::new(alloc);
-    for _ in 0..group_count {
-        groups.push(GroupText {
-            id: Name::new(alloc),
-            decisions: many_decisions(alloc, decision_count)?,
-        })?;
-    }
-    Ok(groups)
-}
-
-fn many_decisions(alloc: Global, count: usize) -> Result<List<DecisionText>, NoMemory> {
-    let mut decisions = List::new(alloc);
-    for _ in 0..count {
-        decisions.push(DecisionText {
-            id: Name::new(alloc),
-            sets: List::new(alloc),
-        })?;
-    }
-    Ok(decisions)
-}
-
-// What there is too many of, among these rows.
-fn too_many(alloc: Global, rows: Rows) -> Option<Many> {
-    match Problem::make(alloc, rows) {
-        Err(ModelFault::TooMany { what }) => Some(what),
-        Err(_) => None,
-        Ok(_) => None,
-    }
-}
-
-// 2,000 nodes, 2,000 arcs, 256 groups and 1,024 decisions of a group are the most, and are counted before all else.
-#[test]
-fn one_more_than_the_most_is_too_many(rt: HostRuntime) -> Result<(), Fail> {
-    let alloc = rt.alloc();
-    let most = [
-        too_many(alloc, many_rows(alloc, 2_000, 2_000, 256, 1)?),
-        too_many(alloc, many_rows(alloc, 1, 1, 1, 1_024)?),
-    ];
-    let more = [
-        too_many(alloc, many_rows(alloc, 2_001, 2_001, 257, 1)?),
-        too_many(alloc, many_rows(alloc, 1, 2_001, 257, 1)?),
-        too_many(alloc, many_rows(alloc, 1, 1, 257, 1_025)?),
-        too_many(alloc, many_rows(alloc, 1, 1, 1, 1_025)?),
-    ];
-    assert_eq!(rt; most, [None, None]);
-    assert_eq!(rt;
-        more,
-        [
-            Some(Many::Nodes),
-            Some(Many::Arcs),
-            Some(Many::Groups),
-            Some(Many::Decisions)
-        ]
-    );
-    Ok(())
-}
-
-// A decision with a word for the arc of this name, where there is one.
+// A decision with one word for an arc.
 fn decision(alloc: Global, id: &str, arc: &str, allow: Allow) -> Result<DecisionText, NoMemory> {
     let mut sets = List::new(alloc);
     sets.push(SetText {
@@ -309,56 +202,6 @@ fn group_offence(
         Err(_) => Ok("other"),
         Ok(_) => Ok("none"),
     }
-}
-
-// The rows of `decided`, with one more group in place of the first or after it.
-fn with_group(alloc: Global, last: GroupText) -> Result<Rows, NoMemory> {
-    let shut = ("v", Allow::Shut);
-    let mut rows = decided(alloc, shut, shut)?;
-    rows.groups.push(last)?;
-    Ok(rows)
-}
-
-// What is wrong with such rows, in a word.
-fn last_offence(alloc: Global, last: GroupText) -> Result<&'static str, NoMemory> {
-    match Problem::make(alloc, with_group(alloc, last)?) {
-        Err(ModelFault::EmptyGroup { .. }) => Ok("empty group"),
-        Err(ModelFault::TwiceDecided { .. }) => Ok("twice decided"),
-        Err(_) => Ok("other"),
-        Ok(_) => Ok("none"),
-    }
-}
-
-// A group `h` of one decision with words for these two arcs.
-fn one_decision(alloc: Global, first: &str, second: &str) -> Result<GroupText, NoMemory> {
-    let mut only = decision(alloc, "d", first, Allow::Shut)?;
-    only.sets.push(SetText {
-        arc: Name::of(alloc, second)?,
-        allow: Allow::Shut,
-    })?;
-    let mut decisions = List::new(alloc);
-    decisions.push(only)?;
-    Ok(GroupText {
-        id: Name::of(alloc, "h")?,
-        decisions,
-    })
-}
-
-// The valve is decided by the first group, so that no other group and no decision twice may decide it.
-#[test]
-fn an_arc_is_decided_once(rt: HostRuntime) -> Result<(), Fail> {
-    let alloc = rt.alloc();
-    let none = GroupText {
-        id: Name::of(alloc, "h")?,
-        decisions: List::new(alloc),
-    };
-    let offences = [
-        last_offence(alloc, none)?,
-        last_offence(alloc, one_decision(alloc, "c", "v")?)?,
-        last_offence(alloc, one_decision(alloc, "c", "c")?)?,
-    ];
-    assert_eq!(rt; offences, ["empty group", "twice decided", "twice decided"]);
-    Ok(())
 }
 
 // A pipe takes no word, a valve isn't active, and both decisions of a group may speak of one arc.
@@ -431,6 +274,10 @@ fn left(alloc: Global, p: &Problem, pick: u32) -> Result<Option<(usize, bool)>, 
     Ok(Some((p.allowed_states(&part, 2)?.len(), p.is_free(&part, 2))))
 }
 
+fn left_by_each(alloc: Global, p: &Problem) -> Result<[Option<(usize, bool)>; 2], NoMemory> {
+    Ok([left(alloc, p, 0)?, left(alloc, p, 1)?])
+}
+
 // Whether the station may be bypassed or shut under the second decision, and the valve open under the first.
 fn may_be(p: &Problem) -> Option<[bool; 3]> {
     if p.arcs().len() != 3 {
@@ -448,9 +295,14 @@ fn may_be(p: &Problem) -> Option<[bool; 3]> {
 fn a_station_that_is_on_is_active_or_bypassed(rt: HostRuntime) -> Result<(), Fail> {
     let alloc = rt.alloc();
     let p = Problem::make(alloc, decided(alloc, ("v", Allow::Shut), ("c", Allow::On))?)?;
-    let counts = [left(alloc, &p, 0)?, left(alloc, &p, 1)?];
-    assert_eq!(rt; counts, [Some((3, true)), Some((2, true))]);
-    assert_eq!(rt; may_be(&p), Some([true, false, false]));
+    let counts = left_by_each(alloc, &p)?;
+    assert_eq!(rt;
+        (counts, may_be(&p)),
+        (
+            [Some((3, true)), Some((2, true))],
+            Some([true, false, false])
+        )
+    );
     Ok(())
 }
 

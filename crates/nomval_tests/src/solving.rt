@@ -121,9 +121,27 @@ fn the_first_offence_of_a_problem_is_said(rt: HostRuntime) -> Result<(), Fail> {
             "node a 0 9 0 0\nnode b 0 9 0 0\nvalve v a b 0 1\ngroup g\ndecision d\nset v open\nset v closed\n",
             "bad problem twice decided v\n",
         ),
+        (
+            "node a 0 9 0 0\nnode b 0 9 0 0\nvalve v a b 0 1\ngroup g\ndecision d\nset v open\ngroup h\ndecision e\nset v open\n",
+            "bad problem twice decided v\n",
+        ),
     ] {
         assert!(rt; leaves(alloc, lines, 65, said)?);
     }
+    Ok(())
+}
+
+// An id has at most 200 bytes, and the 201st is one too many.
+#[test]
+fn an_id_of_201_bytes_is_over_its_limit(rt: HostRuntime) -> Result<(), Fail> {
+    let alloc = rt.alloc();
+    let mut lines = Name::new(alloc);
+    lines.push_text("node ")?;
+    for _ in 0..201 {
+        lines.push_text("x")?;
+    }
+    lines.push_text(" 0 9 0 0\n")?;
+    assert!(rt; leaves(alloc, lines.as_str(), 65, "bad problem over limit line 2\n")?);
     Ok(())
 }
 
