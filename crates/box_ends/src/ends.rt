@@ -1,9 +1,10 @@
 // The ends of one variable, and lists of them.
-ghost use Rattle.std.specs.Prelude.{◌≡◌, ◌≤◌, ◌*ℤ◌, length, map, position, IfOk, IsTrue};
+ghost use Rattle.std.specs.Prelude.{◌≡◌, ◌≤◌, ◌*ℤ◌, length, map, position, IfOk, OnOk, IsTrue};
 ghost use Rattle.gas_model.specs.Limits.{is_flow, is_pressure};
 ghost use Rattle.gas_model.specs.Curves.{square};
 ghost use Rattle.gas_model.specs.Boxes.{flow_ends, square_ends, with_end, is_empty};
 ghost use Rattle.gas_model.specs.BoxLimits.{IsScale, AreFlowEnds, AreSquareEnds};
+ghost use Rattle.gas_model.specs.Within.{IsWithin};
 ghost use Rattle.box_ends.specs.Scaled.{AreHeld};
 
 use gas_model::{ArcRow, Ends, NoMemory, NodeRow, Problem};
@@ -50,6 +51,7 @@ pub fn all_flow_ends(alloc: Global, scale: i128, p: &Problem) -> Result<Vec<Ends
     requires { IsScale scale }
     ensures value { IfOk result (λ all. all.items ≡ map (flow_ends scale) p.now.arcs) }
     ensures held { IfOk result (λ all. AreHeld (AreFlowEnds scale) all.items) }
+    ensures within { OnOk result (IsWithin p.now) }
 {
     let mut all = Vec::new(alloc);
     for row in p.arcs() {

@@ -1,7 +1,8 @@
 // The box of all variables, with its scale.
-ghost use Rattle.std.specs.Prelude.{◌≡◌, IfOk, IfNone, IfSome, IsTrue};
+ghost use Rattle.std.specs.Prelude.{◌≡◌, IfOk, IfNone, IfSome, OnOk, IsTrue};
 ghost use Rattle.gas_model.specs.Boxes.{ends_of, is_in_box, width_of, first_empty, opening, tightened, with_ends, may_become, BoxFits};
 ghost use Rattle.gas_model.specs.BoxLimits.{IsScale, AreLimited};
+ghost use Rattle.gas_model.specs.Within.{IsWithin};
 ghost use Rattle.box_ends.specs.Scaled.{with_bounds};
 ghost use Rattle.box_ends.specs.Empty.{LeavesAll, LeavesNone};
 
@@ -37,6 +38,7 @@ impl ScaledBox {
         ensures scale { IfOk result (λ b. b.scale ≡ scale) }
         ensures bounds { IfOk result (λ b. b.bounds ≡ opening scale p.now) }
         ensures fits { IfOk result (λ b. BoxFits p.now b.bounds) }
+        ensures within { OnOk result (IsWithin p.now) }
     {
         Ok(ScaledBox {
             scale,

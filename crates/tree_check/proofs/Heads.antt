@@ -13,15 +13,15 @@ use Rattle.gas_model.specs.declared.rows.ArcRow.{ArcRow}
 use Rattle.gas_model.specs.declared.rows.Group.{Group}
 use Rattle.gas_model.specs.declared.rows.PartState.{PartState}
 use Rattle.gas_model.specs.Rows.{Network}
-use Rattle.gas_model.specs.Choices.{states_of, has_state, allows, words_for}
-use Rattle.gas_model.specs.Rulings.{pick_in}
+use Rattle.gas_model.specs.Choices.{states_of, has_state, picks_allow, allowed_states}
+use Rattle.gas_model.specs.Rulings.{is_free, pick_in}
 use Rattle.gas_model.specs.Within.{IsWithin as Within, is_group_within}
 use Rattle.tree_cert.specs.Tree.{ByGroup, ByArc}
 use Rattle.tree_check.specs.declared.frames.Expected.TheVariants as expected
 use Rattle.tree_check.specs.Undo.{wait_at, AreDecisionsOf, AreStatesOf}
-use Rattle.tree_check.proofs.CutNodes.{and_parts}
+use Rattle.std.proofs.lemmas.Bool.{and_parts}
 use Rattle.tree_rules.specs.Rules.{PartBox}
-use Rattle.tree_rules.specs.Branches.{Heads, headed, after_head, same_head, is_over, after_branch, decision_heads, state_heads, allowed_states, is_free}
+use Rattle.tree_rules.specs.Branches.{Heads, headed, after_head, same_head, is_over, after_branch, decision_heads, state_heads}
 use Rattle.tree_rules.proofs.SameHeads.{heads_are_told_apart}
 
 both : (a b : Bool) → IsTrue a → IsTrue b → IsTrue (a && b)
@@ -121,7 +121,7 @@ arc_states p part a row left e is = record {
       let here : row ≡ r = cc in
       subst (λ (x : ArcRow). IsTrue (list_all (has_state x.kind) left)) here
       (subst (λ (l : List ArcState). IsTrue (list_all (has_state row.kind) l)) (sym is)
-      (state_filter (λ state. list_all (λ word. allows word state) (words_for p.groups part.picks a)) row.kind (states_of row.kind) (own_states row.kind)));
+      (state_filter (picks_allow p.groups part.picks a) row.kind (states_of row.kind) (own_states row.kind)));
 }
 
 pub free_arc : (p : Network) (b : PartBox) (a : ℕ) (row : ArcRow) (left : List ArcState) → slice_get p.arcs a ≡ Some row → is_free p b.part a row ≡ true → left ≡ allowed_states p b.part a row → Some (Heads b (map (State a) left)) ≡ after_branch p b (ByArc a)

@@ -1,8 +1,4 @@
-pub mod NumberFits
 pub mod SideFits
-pub mod EndFits
-pub mod HeldEnds
-pub mod OneLeft
 pub mod OtherRules
 pub mod LawFacts
 pub mod LawSteps
@@ -11,3 +7,4 @@ pub mod CutNodes
 pub mod Undoing
 pub mod Heads
 pub mod Judging
+pub mod CutArcs

@@ -11,7 +11,7 @@ use Rattle.tree_check.specs.declared.arc_rules.ArcSides.{ArcSides}
 use Rattle.tree_check.specs.ArcSides.{AreSafeSides, IsSafeAt}
 use Rattle.tree_check.specs.declared.arc_rules.ArcSide.{ArcSide}
 use Rattle.tree_check.specs.declared.arc_rules.ArcSide.TheVariants as sides
-use Rattle.tree_check.proofs.NumberFits.{wide_fits}
+use Rattle.element_laws.proofs.ScaledFits.{wide_fits}
 
 pub flow_fits : (q : ℤ) → IsWithin most_flow q → FitsSigned w128 q
 flow_fits q w = within_fits most_flow q w (lit≤ tt)

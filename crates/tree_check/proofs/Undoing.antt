@@ -3,29 +3,36 @@ use Rattle.std.proofs.Common.{◌≡◌, ◌⊎◌, inl, inr, ◌<◌, ℕ, zero
 use Rattle.std.specs.Prelude.{slice_get, slice_set}
 use Rattle.std.proofs.lemmas.List.{set-get_or}
 use Rattle.std.proofs.lemmas.Option.{slice_get-get_or}
-use borrow.Author.Tests.{ltb-true, lt-ltb}
 use Rattle.integer_laws.proofs.Ring.{linear}
 use Rattle.gas_model.specs.declared.rows.ArcState.{ArcState}
 use Rattle.gas_model.specs.declared.rows.Ends.{Ends}
 use Rattle.gas_model.specs.declared.rows.Var.{Var}
 use Rattle.gas_model.specs.declared.rows.Var.TheVariants.{Flow, Square}
 use Rattle.gas_model.specs.Rows.{Network}
-use Rattle.gas_model.specs.Boxes.{no_ends, ends_of, is_var, is_in_box, with_end, with_ends, may_become}
+use Rattle.gas_model.specs.Boxes.{no_ends, ends_of, with_end, with_ends, may_become}
+use Rattle.gas_model.specs.Choices.{PartFits, fresh_part}
+use Rattle.std.specs.Prelude.{int_lt, replicate}
+use Rattle.std.proofs.lemmas.Bool.{and_parts}
+use Rattle.tree_rules.specs.Branches.{lies_inside}
 use Rattle.tree_rules.specs.Rules.{PartBox}
 use Rattle.tree_check.specs.declared.frames.Change.{Change}
 use Rattle.tree_check.specs.declared.frames.Change.TheVariants as change
 use Rattle.tree_check.specs.declared.frames.Frame.{Frame}
-use Rattle.tree_check.specs.Held.{IsBoxAt, AreLimited}
+use Rattle.gas_model.specs.BoxLimits.{IsScale, AreLimited}
+use Rattle.gas_model.proofs.BoxFacts.{still_fits}
+use Rattle.box_ends.proofs.HeldEnds.{end_moved}
+use Rattle.element_laws.specs.Sizes.{IsSafe}
+use Rattle.element_laws.proofs.BoxEnds.{safe_flows, safe_squares}
+use Rattle.tree_check.specs.Held.{IsBoxAt}
 use Rattle.tree_check.specs.Undo.{with_bounds, with_part, put_pick, put_state, undone, before, wait_at, waits_at, noted, IsChangeOf, AreFramesOf, IsPickOf, IsStateOf, IsLimited}
-use Rattle.tree_check.proofs.HeldEnds.{moved_within}
 
 pub noted_waits : (b after : PartBox) (c : Change) (fs : List Frame) → undone after c ≡ b → waits_at after (noted c fs) ≡ waits_at b fs
 noted_waits b after c [] e = refl
 noted_waits b after c (f ∷ fs) e = ap (λ (x : PartBox). wait_at (before x f.changes) f.expected ∷ waits_at (before x f.changes) fs) e
 
-pub noted_frames : (p : Network) (c : Change) (fs : List Frame) → IsChangeOf p c → AreFramesOf p fs → AreFramesOf p (noted c fs)
-noted_frames p c [] h t = tt
-noted_frames p c (f ∷ fs) h t = ((t.0.0, (h, t.0.1)), t.1)
+pub noted_frames : (p : Network) (K : ℤ) (c : Change) (fs : List Frame) → IsChangeOf p K c → AreFramesOf p K fs → AreFramesOf p K (noted c fs)
+noted_frames p K c [] h t = tt
+noted_frames p K c (f ∷ fs) h t = ((t.0.0, (h, t.0.1)), t.1)
 
 set_set : {X : Type 0} (xs : List X) (i : ℕ) (x y : X) → slice_set (slice_set xs i x) i y ≡ slice_set xs i y
 set_set [] i x y = refl
@@ -55,8 +62,7 @@ set_cases (x ∷ xs) (suc i) (suc j) y z e = elim (set_cases xs i j y z e) [ inl
 
 -- ---- boxes of the problem
 pub ends_at : (p : Network) (b : PartBox) (var : Var) (e : Ends) → IsBoxAt p b → IsBoxAt p (with_bounds b (with_ends b.bounds var e))
-ends_at p b (Flow a) e h = record { within = h.within; bounds = record { flows = length-set b.bounds.flows a e ∙ h.bounds.flows; squares = h.bounds.squares }; part = h.part }
-ends_at p b (Square n) e h = record { within = h.within; bounds = record { flows = h.bounds.flows; squares = length-set b.bounds.squares n e ∙ h.bounds.squares }; part = h.part }
+ends_at p b var e h = record { within = h.within; bounds = still_fits p b.bounds var e h.bounds; part = h.part }
 
 pub pick_at : (p : Network) (b : PartBox) (k : ℕ) (pick : Option ℕ) → IsBoxAt p b → IsPickOf p k pick → IsBoxAt p (with_part b (put_pick b.part k pick))
 pick_at p b k pick h t = record {
@@ -105,29 +111,44 @@ old_state p b a h l = record {
       h.part.kinds a row s e (slice_get-get_or b.part.states a None inside ∙ ap Some n);
 }
 
-pub var_in_box : (p : Network) (b : PartBox) (var : Var) → IsBoxAt p b → IsTrue (is_var p var) → IsTrue (is_in_box b.bounds var)
-var_in_box p b (Flow a) h t =
-    let l = ltb-true a (length p.arcs) t in
-    let same = h.bounds.flows in
-    lt-ltb a (length b.bounds.flows) (omega (arith, l, same))
-var_in_box p b (Square n) h t =
-    let l = ltb-true n (length p.nodes) t in
-    let same = h.bounds.squares in
-    lt-ltb n (length b.bounds.squares) (omega (arith, l, same))
-
 -- ends of which one becomes a value that it may have
-pub end_limited : (var : Var) (low : Bool) (C : ℤ) (e : Ends) → AreLimited var e → IsLimited var C → AreLimited var (with_end low C e)
-end_limited (Flow a) true C e h t = record { low_from = t.0; low_to = omega (arith, linear, t.1); high_from = h.high_from; high_to = h.high_to }
-end_limited (Flow a) false C e h t = record { low_from = h.low_from; low_to = h.low_to; high_from = omega (arith, linear, t.0); high_to = t.1 }
-end_limited (Square n) true C e h t = record { low_from = t.0; low_to = omega (arith, linear, t.1); high_from = h.high_from; high_to = h.high_to }
-end_limited (Square n) false C e h t = record { low_from = h.low_from; low_to = h.low_to; high_from = omega (arith, linear, t.0); high_to = t.1 }
-
--- ends of which one moves inward
-pub end_moved : (var : Var) (low : Bool) (C : ℤ) (e : Ends) → AreLimited var e → IsTrue (may_become low C e) → AreLimited var (with_end low C e)
-end_moved (Flow a) low C e h t = moved_within _ _ low C e h t
-end_moved (Square n) low C e h t = moved_within _ _ low C e h t
+pub end_limited : (K : ℤ) (var : Var) (low : Bool) (C : ℤ) (e : Ends) → AreLimited K var e → IsLimited K var C → AreLimited K var (with_end low C e)
+end_limited K (Flow a) true C e h t = record { low_from = t.0; low_to = omega (arith, linear, t.1); high_from = h.high_from; high_to = h.high_to }
+end_limited K (Flow a) false C e h t = record { low_from = h.low_from; low_to = h.low_to; high_from = omega (arith, linear, t.0); high_to = t.1 }
+end_limited K (Square n) true C e h t = record { low_from = t.0; low_to = omega (arith, linear, t.1); high_from = h.high_from; high_to = h.high_to }
+end_limited K (Square n) false C e h t = record { low_from = h.low_from; low_to = h.low_to; high_from = omega (arith, linear, t.0); high_to = t.1 }
 
 -- a value strictly between ends
-pub inner_limited : (var : Var) (C : ℤ) (e : Ends) → AreLimited var e → e.lo <ℤ C → C <ℤ e.hi → IsLimited var C
-inner_limited (Flow a) C e h a1 b1 = (omega (arith, linear, h.low_from, a1), omega (arith, linear, h.high_to, b1))
-inner_limited (Square n) C e h a1 b1 = (omega (arith, linear, h.low_from, a1), omega (arith, linear, h.high_to, b1))
+inner_limited : (K : ℤ) (var : Var) (C : ℤ) (e : Ends) → AreLimited K var e → e.lo <ℤ C → C <ℤ e.hi → IsLimited K var C
+inner_limited K (Flow a) C e h a1 b1 = (omega (arith, linear, h.low_from, a1), omega (arith, linear, h.high_to, b1))
+inner_limited K (Square n) C e h a1 b1 = (omega (arith, linear, h.low_from, a1), omega (arith, linear, h.high_to, b1))
+
+pub inside_limited : (K : ℤ) (var : Var) (C : ℤ) (e : Ends) → AreLimited K var e → lies_inside e C ≡ true → IsLimited K var C
+inside_limited K var C e h t =
+    let parts = and_parts (int_lt e.lo C) (int_lt C e.hi) t in
+    inner_limited K var C e h (omega (arith, linear, parts.0)) (omega (arith, linear, parts.1))
+
+-- a value that an end may become is one that the formulas of the laws take
+pub moved_safe : (K : ℤ) (var : Var) (low : Bool) (C : ℤ) (e : Ends) → IsScale K → AreLimited K var e → IsTrue (may_become low C e) → IsSafe var C
+moved_safe K (Flow a) true C e k h t = (safe_flows K (with_end true C e) k (end_moved K (Flow a) true C e h t)).lo
+moved_safe K (Flow a) false C e k h t = (safe_flows K (with_end false C e) k (end_moved K (Flow a) false C e h t)).hi
+moved_safe K (Square n) true C e k h t = (safe_squares K (with_end true C e) k (end_moved K (Square n) true C e h t)).lo
+moved_safe K (Square n) false C e k h t = (safe_squares K (with_end false C e) k (end_moved K (Square n) false C e h t)).hi
+
+-- ---- nothing is picked and named
+nothing_at : {X : Type 0} (n k : ℕ) (x : X) → slice_get (replicate {A = Option X} n None) k ≡ Some (Some x) → ⊥
+nothing_at zero k x e = absurd cc
+nothing_at (suc n) zero x e = absurd cc
+nothing_at (suc n) (suc k) x e = nothing_at n k x e
+
+as_many : {X : Type 0} (n : ℕ) (x : X) → length (replicate n x) ≡ n
+as_many zero x = refl
+as_many (suc n) x = ap suc (as_many n x)
+
+pub fresh_fits : (p : Network) → PartFits p (fresh_part p)
+fresh_fits p = record {
+  picks = as_many (length p.groups) None;
+  states = as_many (length p.arcs) None;
+  within = λ k g j e s. absurd (nothing_at (length p.groups) k j s);
+  kinds = λ a row state e s. absurd (nothing_at (length p.arcs) a state s);
+}

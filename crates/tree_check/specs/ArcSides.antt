@@ -12,7 +12,7 @@ use Rattle.tree_check.specs.declared.arc_rules.ArcSide.{ArcSide}
 use Rattle.tree_check.specs.declared.arc_rules.ArcSide.TheVariants as side
 use Rattle.tree_check.specs.declared.forms.Form.{Form}
 use Rattle.tree_check.specs.declared.forms.Form.TheVariants as forms
-use Rattle.tree_check.specs.Held.{AreSafeFlows, AreSafeSquares}
+use Rattle.element_laws.specs.Sizes.{AreSafeFlows, AreSafeSquares}
 
 abbrev pub ends_of_sides : ArcSides → ArcEnds
 ends_of_sides e = record { q = e.q; u = e.u; v = e.v }

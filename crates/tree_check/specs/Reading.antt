@@ -13,7 +13,8 @@ use Rattle.tree_check.specs.declared.reader.Mark.TheVariants as marks
 use Rattle.tree_check.specs.declared.reader.Reader.{Reader}
 use Rattle.tree_check.specs.declared.reader.Stop.{Stop}
 use Rattle.tree_check.specs.declared.reader.Stop.TheVariants as stops
-use Rattle.tree_check.specs.Held.{IsBoxAt, IsScale}
+use Rattle.gas_model.specs.BoxLimits.{IsScale}
+use Rattle.tree_check.specs.Held.{IsBoxAt}
 use Rattle.tree_check.specs.Undo.{waits_at, AreFramesOf}
 
 -- where a head is expected, which is below some branch
@@ -34,7 +35,7 @@ place_of p r = place_by p r.mark r.here r.frames
 -- the box and the branches are of the problem
 pub record IsReaderOf (p : Network) (r : Reader) : Type 0 where
   pub here : IsBoxAt p r.here
-  pub frames : AreFramesOf p r.frames
+  pub frames : AreFramesOf p r.here.scale r.frames
 
 -- what a call answered is what the rules say, unless memory ran out
 abbrev pub Says : {A : Type 0} → Result (Unit {0}) Stop → A → Result A FaultKind → Type 0

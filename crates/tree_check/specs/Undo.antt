@@ -1,5 +1,5 @@
 -- Branches that wait for children, as changes of the one box that is kept.
-use Rattle.std.specs.Prelude.{◌≡◌, ℕ, ◌<◌, ◌≤◌, ◌-◌, ℤ, pos, neg_ℤ, ◌≤ℤ◌, List, [], ◌∷◌, map, Option, Some, slice_get, slice_set, length, IsTrue}
+use Rattle.std.specs.Prelude.{◌≡◌, ℕ, ◌<◌, ◌≤◌, ◌-◌, ◌^◌, ℤ, pos, neg_ℤ, ◌*ℤ◌, ◌≤ℤ◌, List, [], ◌∷◌, map, Option, Some, slice_get, slice_set, length, IsTrue}
 use Rattle.std.specs.List.{range_with_len, list_all}
 use Rattle.gas_model.specs.declared.rows.ArcRow.{ArcRow}
 use Rattle.gas_model.specs.declared.rows.ArcState.{ArcState}
@@ -19,7 +19,7 @@ use Rattle.tree_check.specs.declared.frames.Change.TheVariants as change
 use Rattle.tree_check.specs.declared.frames.Expected.{Expected}
 use Rattle.tree_check.specs.declared.frames.Expected.TheVariants as expected
 use Rattle.tree_check.specs.declared.frames.Frame.{Frame}
-use Rattle.tree_check.specs.Held.{AreLimited, top_flow, top_square}
+use Rattle.gas_model.specs.BoxLimits.{AreLimited}
 
 -- the box with other bounds, or with another part state
 abbrev pub with_bounds : PartBox → Bounds → PartBox
@@ -73,26 +73,26 @@ pub record IsStateOf (p : Network) (a : ℕ) (named : Option ArcState) : Type 0 
   pub arc : a < length p.arcs
   pub kind : (row : ArcRow) (state : ArcState) → slice_get p.arcs a ≡ Some row → named ≡ Some state → IsTrue (has_state row.kind state)
 
--- a value that ends of the variable may have
-abbrev pub IsLimited : Var → ℤ → Type 0
-IsLimited (Flow a) C = (neg_ℤ top_flow ≤ℤ C) × (C ≤ℤ top_flow)
-IsLimited (Square n) C = (pos 0 ≤ℤ C) × (C ≤ℤ top_square)
+-- a value that ends of the variable may have, in units of 1/K
+abbrev pub IsLimited : ℤ → Var → ℤ → Type 0
+IsLimited K (Flow a) C = (neg_ℤ (K *ℤ pos (10 ^ 12)) ≤ℤ C) × (C ≤ℤ (K *ℤ pos (10 ^ 12)))
+IsLimited K (Square n) C = (pos 0 ≤ℤ C) × (C ≤ℤ (K *ℤ pos (10 ^ 16)))
 
 -- the head is one of the problem
-abbrev pub IsHeadOf : Network → Head → Type 0
-IsHeadOf p (Take k j) = IsPickOf p k (Some j)
-IsHeadOf p (State a state) = IsStateOf p a (Some state)
-IsHeadOf p (Half var low C) = IsTrue (is_var p var) × IsLimited var C
+abbrev pub IsHeadOf : Network → ℤ → Head → Type 0
+IsHeadOf p K (Take k j) = IsPickOf p k (Some j)
+IsHeadOf p K (State a state) = IsStateOf p a (Some state)
+IsHeadOf p K (Half var low C) = IsTrue (is_var p var) × IsLimited K var C
 
 -- the change is one of a box of the problem
-abbrev pub IsChangeOf : Network → Change → Type 0
-IsChangeOf p (change.Moved var ends) = IsTrue (is_var p var) × AreLimited var ends
-IsChangeOf p (change.Picked k pick) = IsPickOf p k pick
-IsChangeOf p (change.Named a state) = IsStateOf p a state
+abbrev pub IsChangeOf : Network → ℤ → Change → Type 0
+IsChangeOf p K (change.Moved var ends) = IsTrue (is_var p var) × AreLimited K var ends
+IsChangeOf p K (change.Picked k pick) = IsPickOf p k pick
+IsChangeOf p K (change.Named a state) = IsStateOf p a state
 
-abbrev pub AreChangesOf : Network → List Change → Type 0
-AreChangesOf p [] = Unit {0}
-AreChangesOf p (c ∷ cs) = IsChangeOf p c × AreChangesOf p cs
+abbrev pub AreChangesOf : Network → ℤ → List Change → Type 0
+AreChangesOf p K [] = Unit {0}
+AreChangesOf p K (c ∷ cs) = IsChangeOf p K c × AreChangesOf p K cs
 
 -- the decisions of a group, of which there are this many
 pub record AreDecisionsOf (p : Network) (k next count : ℕ) : Type 0 where
@@ -105,13 +105,13 @@ pub record AreStatesOf (p : Network) (a : ℕ) (left : List ArcState) : Type 0 w
   pub kinds : (row : ArcRow) → slice_get p.arcs a ≡ Some row → IsTrue (list_all (has_state row.kind) left)
 
 -- what is expected is of the problem
-abbrev pub IsExpectedOf : Network → Expected → Type 0
-IsExpectedOf p (expected.Decisions k next count) = AreDecisionsOf p k next count
-IsExpectedOf p (expected.States a left) = AreStatesOf p a left
-IsExpectedOf p (expected.Halves var) = IsTrue (is_var p var)
-IsExpectedOf p (expected.UpperHalf var C) = IsTrue (is_var p var) × IsLimited var C
-IsExpectedOf p expected.Over = Unit {0}
+abbrev pub IsExpectedOf : Network → ℤ → Expected → Type 0
+IsExpectedOf p K (expected.Decisions k next count) = AreDecisionsOf p k next count
+IsExpectedOf p K (expected.States a left) = AreStatesOf p a left
+IsExpectedOf p K (expected.Halves var) = IsTrue (is_var p var)
+IsExpectedOf p K (expected.UpperHalf var C) = IsTrue (is_var p var) × IsLimited K var C
+IsExpectedOf p K expected.Over = Unit {0}
 
-abbrev pub AreFramesOf : Network → List Frame → Type 0
-AreFramesOf p [] = Unit {0}
-AreFramesOf p (f ∷ fs) = (IsExpectedOf p f.expected × AreChangesOf p f.changes) × AreFramesOf p fs
+abbrev pub AreFramesOf : Network → ℤ → List Frame → Type 0
+AreFramesOf p K [] = Unit {0}
+AreFramesOf p K (f ∷ fs) = (IsExpectedOf p K f.expected × AreChangesOf p K f.changes) × AreFramesOf p K fs

@@ -4,10 +4,11 @@ ghost use Rattle.gas_model.specs.Curves.{at_least};
 ghost use Rattle.gas_model.specs.Limits.{is_difference, is_drag_within, is_ratio_part};
 ghost use Rattle.tree_rules.specs.ArcRules as rule;
 ghost use Rattle.tree_check.specs.ArcSides.{ends_of_sides, var_of_side, AreSafeSides, IsSafeAt};
-ghost use Rattle.tree_check.specs.Held.{IsScale};
+ghost use Rattle.gas_model.specs.BoxLimits.{IsScale};
 
-use crate::numbers::{at_least, at_most, gap, ratio_square, scaled_square};
-use element_laws::{drop_high, drop_low};
+use element_laws::{
+    drop_gap, drop_high, drop_low, ratio_square, scaled_at_least, scaled_at_most, scaled_square,
+};
 use gas_model::{Drag, Ends};
 
 /// The ends of the variables of an arc: of its flow, and of the squares at its `from` and at its `to`.
@@ -44,23 +45,23 @@ pub fn pipe_step(
     match side {
         ArcSide::Flow => {
             if low {
-                drop_high(law, value) <= gap(law, scale, e.u.lo, e.v.hi)
+                drop_high(law, value) <= drop_gap(law, scale, e.u.lo, e.v.hi)
             } else {
-                gap(law, scale, e.u.hi, e.v.lo) <= drop_low(law, value)
+                drop_gap(law, scale, e.u.hi, e.v.lo) <= drop_low(law, value)
             }
         }
         ArcSide::From => {
             if low {
-                gap(law, scale, value, e.v.lo) <= drop_low(law, e.q.lo)
+                drop_gap(law, scale, value, e.v.lo) <= drop_low(law, e.q.lo)
             } else {
-                drop_high(law, e.q.hi) <= gap(law, scale, value, e.v.hi)
+                drop_high(law, e.q.hi) <= drop_gap(law, scale, value, e.v.hi)
             }
         }
         ArcSide::To => {
             if low {
-                drop_high(law, e.q.hi) <= gap(law, scale, e.u.lo, value)
+                drop_high(law, e.q.hi) <= drop_gap(law, scale, e.u.lo, value)
             } else {
-                gap(law, scale, e.u.hi, value) <= drop_low(law, e.q.lo)
+                drop_gap(law, scale, e.u.hi, value) <= drop_low(law, e.q.lo)
             }
         }
     }
@@ -151,16 +152,16 @@ pub fn fall_step(
         ArcSide::Flow => false,
         ArcSide::From => {
             if low {
-                at_most(scale, value, e.v.lo, red_min)
+                scaled_at_most(scale, value, e.v.lo, red_min)
             } else {
-                at_least(scale, value, e.v.hi, red_max)
+                scaled_at_least(scale, value, e.v.hi, red_max)
             }
         }
         ArcSide::To => {
             if low {
-                at_least(scale, e.u.lo, value, red_max)
+                scaled_at_least(scale, e.u.lo, value, red_max)
             } else {
-                at_most(scale, e.u.hi, value, red_min)
+                scaled_at_most(scale, e.u.hi, value, red_min)
             }
         }
     }
@@ -194,8 +195,8 @@ pub fn rise_step(
 {
     match side {
         ArcSide::Flow => false,
-        ArcSide::From => low && at_least(scale, e.v.lo, value, rise_max),
-        ArcSide::To => !low && at_least(scale, value, e.u.hi, rise_max),
+        ArcSide::From => low && scaled_at_least(scale, e.v.lo, value, rise_max),
+        ArcSide::To => !low && scaled_at_least(scale, value, e.u.hi, rise_max),
     }
 }
 
@@ -231,9 +232,9 @@ pub fn sign_step(
     match side {
         ArcSide::Flow => {
             if low {
-                value <= 0 && !at_least(scale, e.v.hi, e.u.lo, low_loss)
+                value <= 0 && !scaled_at_least(scale, e.v.hi, e.u.lo, low_loss)
             } else {
-                0 <= value && !at_least(scale, e.u.hi, e.v.lo, low_loss)
+                0 <= value && !scaled_at_least(scale, e.u.hi, e.v.lo, low_loss)
             }
         }
         ArcSide::From | ArcSide::To => false,
@@ -259,16 +260,16 @@ pub fn reach_step(
         ArcSide::Flow => false,
         ArcSide::From => {
             if low {
-                at_least(scale, e.v.lo, value, high_loss)
+                scaled_at_least(scale, e.v.lo, value, high_loss)
             } else {
-                at_least(scale, value, e.v.hi, high_loss)
+                scaled_at_least(scale, value, e.v.hi, high_loss)
             }
         }
         ArcSide::To => {
             if low {
-                at_least(scale, e.u.lo, value, high_loss)
+                scaled_at_least(scale, e.u.lo, value, high_loss)
             } else {
-                at_least(scale, value, e.u.hi, high_loss)
+                scaled_at_least(scale, value, e.u.hi, high_loss)
             }
         }
     }
@@ -316,16 +317,16 @@ pub fn drop_step(
         ArcSide::Flow => false,
         ArcSide::From => {
             if low {
-                1 <= e.q.lo && at_most(scale, value, e.v.lo, low_loss)
+                1 <= e.q.lo && scaled_at_most(scale, value, e.v.lo, low_loss)
             } else {
-                e.q.hi <= -1 && at_most(scale, e.v.hi, value, low_loss)
+                e.q.hi <= -1 && scaled_at_most(scale, e.v.hi, value, low_loss)
             }
         }
         ArcSide::To => {
             if low {
-                e.q.hi <= -1 && at_most(scale, value, e.u.lo, low_loss)
+                e.q.hi <= -1 && scaled_at_most(scale, value, e.u.lo, low_loss)
             } else {
-                1 <= e.q.lo && at_most(scale, e.u.hi, value, low_loss)
+                1 <= e.q.lo && scaled_at_most(scale, e.u.hi, value, low_loss)
             }
         }
     }
@@ -338,8 +339,8 @@ pub fn pipe_closing(law: &Drag, scale: i128, e: ArcSides) -> bool
     requires ends { AreSafeSides e }
     ensures { result ≡ rule.pipe_closing law.now scale (ends_of_sides e) }
 {
-    gap(law, scale, e.u.hi, e.v.lo) < drop_low(law, e.q.lo)
-        || drop_high(law, e.q.hi) < gap(law, scale, e.u.lo, e.v.hi)
+    drop_gap(law, scale, e.u.hi, e.v.lo) < drop_low(law, e.q.lo)
+        || drop_high(law, e.q.hi) < drop_gap(law, scale, e.u.lo, e.v.hi)
 }
 
 // Nor that of a pressure that falls by `red_min` to `red_max` Pa.
@@ -350,7 +351,8 @@ pub fn fall_closing(red_min: i64, red_max: i64, scale: i128, e: ArcSides) -> boo
     requires ends { AreSafeSides e }
     ensures { result ≡ rule.fall_closing red_min red_max scale (ends_of_sides e) }
 {
-    !at_least(scale, e.u.hi, e.v.lo, red_min) || !at_most(scale, e.u.lo, e.v.hi, red_max)
+    !scaled_at_least(scale, e.u.hi, e.v.lo, red_min)
+        || !scaled_at_most(scale, e.u.lo, e.v.hi, red_max)
 }
 
 // Nor that of a pressure that rises by at most `rise_max` Pa.
@@ -360,7 +362,7 @@ pub fn rise_closing(rise_max: i64, scale: i128, e: ArcSides) -> bool
     requires ends { AreSafeSides e }
     ensures { result ≡ rule.rise_closing rise_max scale (ends_of_sides e) }
 {
-    !at_most(scale, e.v.lo, e.u.hi, rise_max)
+    !scaled_at_most(scale, e.v.lo, e.u.hi, rise_max)
 }
 
 // Nor that of a pressure that rises at most to its `num / den`-fold.
@@ -380,7 +382,8 @@ pub fn reach_closing(high_loss: i64, scale: i128, e: ArcSides) -> bool
     requires ends { AreSafeSides e }
     ensures { result ≡ rule.reach_closing high_loss scale (ends_of_sides e) }
 {
-    !at_most(scale, e.u.lo, e.v.hi, high_loss) || !at_most(scale, e.v.lo, e.u.hi, high_loss)
+    !scaled_at_most(scale, e.u.lo, e.v.hi, high_loss)
+        || !scaled_at_most(scale, e.v.lo, e.u.hi, high_loss)
 }
 
 // A flow of at least a unit goes forward, where the squares allow no such loss.
@@ -390,7 +393,7 @@ fn drops_forward(low_loss: i64, scale: i128, e: ArcSides) -> bool
     requires ends { AreSafeSides e }
     ensures { result ≡ (int_le (pos 1) e.q.lo && not (at_least scale e.u.hi e.v.lo low_loss)) }
 {
-    1 <= e.q.lo && !at_least(scale, e.u.hi, e.v.lo, low_loss)
+    1 <= e.q.lo && !scaled_at_least(scale, e.u.hi, e.v.lo, low_loss)
 }
 
 // The same back.
@@ -400,7 +403,7 @@ fn drops_back(low_loss: i64, scale: i128, e: ArcSides) -> bool
     requires ends { AreSafeSides e }
     ensures { result ≡ (int_le e.q.hi (negsuc 0) && not (at_least scale e.v.hi e.u.lo low_loss)) }
 {
-    e.q.hi <= -1 && !at_least(scale, e.v.hi, e.u.lo, low_loss)
+    e.q.hi <= -1 && !scaled_at_least(scale, e.v.hi, e.u.lo, low_loss)
 }
 
 // Nor that of the least loss of pressure along a flow whose direction is known.

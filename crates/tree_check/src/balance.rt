@@ -8,7 +8,9 @@ ghost use Rattle.tree_rules.specs.NodeRules as node_rule;
 ghost use Rattle.tree_rules.specs.Rules as spec;
 ghost use Rattle.tree_rules.specs.Rules.{flow_lo, flow_hi};
 ghost use Rattle.tree_check.specs.Balance.{net_low, net_high, leaves_with, enters_with, supply_of, AreSums};
-ghost use Rattle.tree_check.specs.Held.{IsScale, IsBoxAt, AreSafeFlows};
+ghost use Rattle.element_laws.specs.Sizes.{AreSafeFlows};
+ghost use Rattle.gas_model.specs.BoxLimits.{IsScale};
+ghost use Rattle.tree_check.specs.Held.{IsBoxAt};
 
 use crate::open_box::OpenBox;
 use gas_model::{ArcRow, Ends, NodeRow, Problem, Var};

@@ -7,26 +7,25 @@ ghost use Rattle.gas_model.specs.Boxes.{is_var};
 ghost use Rattle.tree_check.specs.Held.{IsBoxAt};
 ghost use Rattle.tree_check.specs.Undo.{wait_at, undone, IsExpectedOf, IsChangeOf, IsHeadOf};
 
-use crate::ends::with_end;
 use crate::frames::{Change, Expected};
 use crate::lookup::{arc_at, count_decisions, group_at};
 use crate::open_box::OpenBox;
-use crate::states::{is_free, is_picked, states_left};
+use crate::states::{is_free, states_left};
 use crate::steps::is_var;
+use box_ends::with_end;
 use gas_model::{Ends, NoMemory, Problem, Var};
-use std::alloc::Global;
 use tree_cert::Head;
 
 /// What is expected after `group`, where the group isn't picked.
 pub fn after_group(p: &Problem, b: &OpenBox, group: u32) -> Option<Expected>
     requires { IsBoxAt p.now b.now }
     ensures after { option_map (wait_at b.now) result ≡ after_branch p.now b.now (ByGroup group) }
-    ensures fits { IfSome result (IsExpectedOf p.now) }
+    ensures fits { IfSome result (IsExpectedOf p.now b.now.scale) }
 {
     match group_at(p, group) {
         None => None,
         Some(row) => {
-            if is_picked(b.picks(), group) {
+            if b.pick(group).is_some() {
                 return None;
             }
             let count = count_decisions(row);
@@ -40,21 +39,16 @@ pub fn after_group(p: &Problem, b: &OpenBox, group: u32) -> Option<Expected>
 }
 
 /// What is expected after `arc`, where the state of the arc isn't fixed and each group that has a word for it is picked.
-pub fn after_arc(
-    alloc: Global,
-    p: &Problem,
-    b: &OpenBox,
-    arc: u32,
-) -> Result<Option<Expected>, NoMemory>
+pub fn after_arc(p: &Problem, b: &OpenBox, arc: u32) -> Result<Option<Expected>, NoMemory>
     requires { IsBoxAt p.now b.now }
     ensures after { IfOk result (λ o. option_map (wait_at b.now) o ≡ after_branch p.now b.now (ByArc arc)) }
-    ensures fits { IfOk result (λ o. IfSome o (IsExpectedOf p.now)) }
+    ensures fits { IfOk result (λ o. IfSome o (IsExpectedOf p.now b.now.scale)) }
 {
     match arc_at(p, arc) {
         None => Ok(None),
-        Some(row) => {
-            if is_free(p, b, arc, row) {
-                let left = states_left(alloc, p, b, arc, row)?;
+        Some(_) => {
+            if is_free(p, b, arc) {
+                let left = states_left(p, b, arc)?;
                 Ok(Some(Expected::States { arc, left }))
             } else {
                 Ok(None)
@@ -66,7 +60,7 @@ pub fn after_arc(
 /// What is expected after `halve`, where the variable is one of the problem.
 pub fn after_halve(p: &Problem, b: &OpenBox, var: Var) -> Option<Expected>
     ensures after { option_map (wait_at b.now) result ≡ after_branch p.now b.now (ByHalves var) }
-    ensures fits { IfSome result (IsExpectedOf p.now) }
+    ensures fits { IfSome result (IsExpectedOf p.now b.now.scale) }
 {
     if is_var(p, var) {
         Some(Expected::Halves { var })
@@ -99,7 +93,7 @@ fn after_lower(p: &Problem, b: &OpenBox, var: Var, head: Head) -> Option<Expecte
     requires fits { IsBoxAt p.now b.now }
     requires var { IsTrue (is_var p.now var) }
     ensures after { MatchOption result (after_head (Halves b.now var) head ≡ None) (λ next. after_head (Halves b.now var) head ≡ Some (headed b.now head, wait_at b.now next)) }
-    ensures fits { IfSome result (λ next. IsExpectedOf p.now next × IsHeadOf p.now head) }
+    ensures fits { IfSome result (λ next. IsExpectedOf p.now b.now.scale next × IsHeadOf p.now b.now.scale head) }
 {
     match head {
         Head::Take { .. } => None,
@@ -121,9 +115,9 @@ fn after_lower(p: &Problem, b: &OpenBox, var: Var, head: Head) -> Option<Expecte
 /// What is expected after a head, where that is the expected one.
 pub fn advance(p: &Problem, b: &OpenBox, expected: Expected, head: Head) -> Option<Expected>
     requires fits { IsBoxAt p.now b.now }
-    requires expected { IsExpectedOf p.now expected }
+    requires expected { IsExpectedOf p.now b.now.scale expected }
     ensures after { MatchOption result (after_head (wait_at b.now expected) head ≡ None) (λ next. after_head (wait_at b.now expected) head ≡ Some (headed b.now head, wait_at b.now next)) }
-    ensures fits { IfSome result (λ next. IsExpectedOf p.now next × IsHeadOf p.now head) }
+    ensures fits { IfSome result (λ next. IsExpectedOf p.now b.now.scale next × IsHeadOf p.now b.now.scale head) }
 {
     match expected {
         Expected::Decisions { group, next, count } => {
@@ -161,10 +155,11 @@ pub fn advance(p: &Problem, b: &OpenBox, expected: Expected, head: Head) -> Opti
 /// Makes the box that of the child with this head, and tells what it takes to go back.
 pub fn take_head(p: &Problem, b: &mut OpenBox, head: Head) -> Change
     requires fits { IsBoxAt p.now b.old }
-    requires head { IsHeadOf p.now head }
+    requires head { IsHeadOf p.now b.old.scale head }
     ensures headed { b.new ≡ headed b.old head }
+    ensures scale { b.new.scale ≡ b.old.scale }
     ensures back { undone b.new result ≡ b.old }
-    ensures change { IsChangeOf p.now result }
+    ensures change { IsChangeOf p.now b.old.scale result }
     ensures fits { IsBoxAt p.now b.new }
 {
     match head {

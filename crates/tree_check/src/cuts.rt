@@ -1,10 +1,10 @@
 // Sets of nodes that shut arcs cut off from the others.
-ghost use Rattle.std.specs.Prelude.{◌≡◌, ◌&&◌, ◌||◌, not, nat_lt, length, slice_get, Some, true, IsTrue};
+ghost use Rattle.std.specs.Prelude.{◌≡◌, ◌<◌, length, slice_get, Some, IsTrue};
 ghost use Rattle.std.specs.List.{list_all};
-ghost use Rattle.gas_model.specs.Choices.{fixed_state};
+ghost use Rattle.gas_model.specs.Points.{arcs_at};
 ghost use Rattle.tree_rules.specs.NodeRules as node_rule;
 ghost use Rattle.tree_rules.specs.Rules as spec;
-ghost use Rattle.tree_check.specs.Cuts.{ascends, all_inside, is_cut_off};
+ghost use Rattle.tree_check.specs.Cuts.{ascends, all_inside, passes_at, is_cut_off, AreMarks};
 ghost use Rattle.tree_check.specs.Held.{IsBoxAt};
 
 use crate::open_box::OpenBox;
@@ -35,25 +35,26 @@ fn all_inside(count: usize, nodes: &[u32]) -> bool
     nodes.iter().all(|node| (*node as usize) < count)
 }
 
-// Whether a node is among nodes that ascend.
-fn is_among(nodes: &[u32], node: u32) -> bool
-    requires { IsTrue (ascends nodes.now) }
-    ensures { result ≡ node_rule.is_cut_node nodes.now node }
+// Which nodes of at most 2,000 are among these.
+fn marked(nodes: &[u32]) -> [bool; 2_000]
+    requires { IsTrue (all_inside 2000 nodes.now) }
+    ensures { AreMarks result nodes.now }
 {
-    match nodes.binary_search(&node) {
-        Ok(_) => true,
-        Err(_) => false,
+    let mut marks = [false; 2_000];
+    for node in nodes {
+        marks[*node as usize] = true;
     }
+    marks
 }
 
-// Whether exactly one end of an arc is among nodes that ascend.
-fn crosses(nodes: &[u32], row: &ArcRow) -> bool
-    requires { IsTrue (ascends nodes.now) }
+// Whether exactly one end of an arc is marked.
+fn crosses(nodes: &[u32], marks: &[bool; 2_000], row: &ArcRow) -> bool
+    requires marks { AreMarks marks.now nodes.now }
+    requires from { row.now.from < 2000 }
+    requires to { row.now.to < 2000 }
     ensures { result ≡ node_rule.crosses nodes.now row.now }
 {
-    let from = is_among(nodes, row.from);
-    let to = is_among(nodes, row.to);
-    if from { !to } else { to }
+    marks[row.from as usize] != marks[row.to as usize]
 }
 
 fn is_shut(state: Option<ArcState>) -> bool
@@ -68,28 +69,52 @@ fn is_shut(state: Option<ArcState>) -> bool
     }
 }
 
-// Whether an arc doesn't join nodes that ascend to others, or is shut.
-fn is_cut_off(p: &Problem, b: &OpenBox, nodes: &[u32], arc: u32, row: &ArcRow) -> bool
-    requires nodes { IsTrue (ascends nodes.now) }
+// Whether an arc doesn't join the marked nodes to others, or is shut.
+fn is_cut_off(
+    p: &Problem,
+    b: &OpenBox,
+    nodes: &[u32],
+    marks: &[bool; 2_000],
+    arc: u32,
+    row: &ArcRow,
+) -> bool
+    requires marks { AreMarks marks.now nodes.now }
     requires fits { IsBoxAt p.now b.now }
     requires row { slice_get p.now.arcs arc ≡ Some row.now }
     ensures { result ≡ is_cut_off p.now b.now.part nodes.now arc row.now }
 {
-    if crosses(nodes, row) {
-        is_shut(fixed_state(p, b, arc, row))
+    if crosses(nodes, marks, row) {
+        is_shut(fixed_state(p, b, arc))
     } else {
         true
     }
 }
 
-// Whether all arcs are so.
+// Whether all arcs at a node are so.
+fn are_cut_off_at(p: &Problem, b: &OpenBox, nodes: &[u32], marks: &[bool; 2_000], node: u32) -> bool
+    requires marks { AreMarks marks.now nodes.now }
+    requires fits { IsBoxAt p.now b.now }
+    requires node { node < length p.now.nodes }
+    ensures { result ≡ list_all (passes_at (is_cut_off p.now b.now.part nodes.now) p.now.arcs) (arcs_at p.now.arcs node) }
+{
+    let arcs = p.arcs();
+    for arc in p.arcs_at(node) {
+        if !is_cut_off(p, b, nodes, marks, *arc, &arcs[*arc as usize]) {
+            return false;
+        }
+    }
+    true
+}
+
+// Whether all arcs are so: those at the nodes, since no other joins them to others.
 fn are_cut_off(p: &Problem, b: &OpenBox, nodes: &[u32]) -> bool
-    requires nodes { IsTrue (ascends nodes.now) }
+    requires inside { IsTrue (all_inside (length p.now.nodes) nodes.now) }
     requires fits { IsBoxAt p.now b.now }
     ensures { result ≡ node_rule.all_arcs (is_cut_off p.now b.now.part nodes.now) 0 p.now.arcs }
 {
-    for (arc, row) in p.arcs().iter().enumerate() {
-        if !is_cut_off(p, b, nodes, arc as u32, row) {
+    let marks = marked(nodes);
+    for node in nodes {
+        if !are_cut_off_at(p, b, nodes, &marks, *node) {
             return false;
         }
     }

@@ -3,7 +3,8 @@ ghost use Rattle.std.specs.Prelude.{◌≡◌, ℤ, false, option_map, slice_get
 ghost use Rattle.std.specs.Option.{option_map_or};
 ghost use Rattle.tree_rules.specs.Rules as spec;
 ghost use Rattle.tree_check.specs.ArcSides.{ends_of_sides, var_of_side, law_of_form, IsFormWithin, AreSafeSides, IsSafeAt};
-ghost use Rattle.tree_check.specs.Held.{IsSafe, IsBoxAt};
+ghost use Rattle.element_laws.specs.Sizes.{IsSafe};
+ghost use Rattle.tree_check.specs.Held.{IsBoxAt};
 
 use crate::arc_rules::{ArcSide, ArcSides};
 use crate::forms::{Form, form_of};
@@ -21,7 +22,7 @@ fn fixed_form(p: &Problem, b: &OpenBox, arc: u32, row: &ArcRow) -> Option<Form>
     ensures form { option_map law_of_form result ≡ spec.fixed_form p.now b.now.part arc row.now }
     ensures within { IfSome result (λ form. IsFormWithin (law_of_form form)) }
 {
-    match fixed_state(p, b, arc, row) {
+    match fixed_state(p, b, arc) {
         None => None,
         Some(state) => Some(form_of(&row.kind, state)),
     }

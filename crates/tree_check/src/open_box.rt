@@ -1,14 +1,15 @@
 // The one box that is kept: that of the next line.
-ghost use Rattle.std.specs.Prelude.{◌≡◌, ◌<◌, length, replicate, None, IfOk, IsTrue};
+ghost use Rattle.std.specs.Prelude.{◌≡◌, ◌<◌, length, IfOk, IsTrue};
 ghost use Rattle.gas_model.specs.Boxes.{ends_of, is_in_box, with_ends};
+ghost use Rattle.gas_model.specs.BoxLimits.{IsScale, AreLimited};
 ghost use Rattle.gas_model.specs.Choices.{named_state};
 ghost use Rattle.gas_model.specs.Rulings.{pick_in};
 ghost use Rattle.tree_rules.specs.Branches.{root_box};
-ghost use Rattle.tree_check.specs.Held.{IsScale, AreLimited, IsBoxAt};
+ghost use Rattle.tree_check.specs.Held.{IsBoxAt};
 ghost use Rattle.tree_check.specs.Undo.{with_bounds, with_part, put_pick, put_state};
 
-use crate::ends::{all_flow_ends, all_square_ends};
-use gas_model::{ArcState, Ends, NoMemory, Problem, Var};
+use box_ends::ScaledBox;
+use gas_model::{ArcState, Ends, NoMemory, PartState, Problem, Var};
 use std::alloc::Global;
 use std::marker::Model;
 
@@ -16,33 +17,16 @@ use std::marker::Model;
 /// squared pressure in Pa^2, in units of 1/scale.
 #[derive(Drop)]
 pub struct OpenBox {
-    scale: i128,
-    picks: Vec<Option<u32>>,
-    states: Vec<Option<ArcState>>,
-    flows: Vec<Ends>,
-    squares: Vec<Ends>,
+    part: PartState,
+    bounds: ScaledBox,
 }
 
 impl Model for OpenBox {
     ghost use Rattle.tree_rules.specs.Rules.{PartBox};
-    ghost use Rattle.tree_check.specs.Held.{IsHeld};
 
     ghost Value = { PartBox };
 
-    ghost view = { λ a. record { scale = a.scale; part = record { picks = a.picks.items; states = a.states.items }; bounds = record { flows = a.flows.items; squares = a.squares.items } } };
-
-    ghost invariant = { λ a. IsHeld a.scale a.flows.items a.squares.items };
-}
-
-// So many times nothing.
-fn nothing<T: Copy + Drop>(alloc: Global, count: usize) -> Result<Vec<Option<T>>, NoMemory>
-    ensures { IfOk result (λ all. all.items ≡ replicate count None) }
-{
-    let mut all = Vec::new(alloc);
-    for _ in 0..count {
-        all.push(None)?;
-    }
-    Ok(all)
+    ghost view = { λ a. record { scale = a.bounds.scale; part = a.part; bounds = a.bounds.bounds } };
 }
 
 impl OpenBox {
@@ -53,11 +37,8 @@ impl OpenBox {
         ensures fits { IfOk result (λ b. IsBoxAt p.now b) }
     {
         Ok(OpenBox {
-            scale,
-            picks: nothing(alloc, p.groups().len())?,
-            states: nothing(alloc, p.arcs().len())?,
-            flows: all_flow_ends(alloc, scale, p)?,
-            squares: all_square_ends(alloc, scale, p)?,
+            part: p.fresh()?,
+            bounds: ScaledBox::opening(alloc, scale, p)?,
         })
     }
 
@@ -66,14 +47,14 @@ impl OpenBox {
         ensures value { result ≡ self.now.scale }
         ensures limits { IsScale result }
     {
-        self.scale
+        self.bounds.scale()
     }
 
-    /// The decisions picked for the groups.
-    pub fn picks(&self) -> &[Option<u32>]
-        ensures { result.now ≡ self.now.part.picks }
+    /// The picked decisions and the named states.
+    pub fn part(&self) -> &PartState
+        ensures { result.now ≡ self.now.part }
     {
-        &self.picks
+        &self.part
     }
 
     /// The decision that is picked for a group, if one is.
@@ -81,7 +62,7 @@ impl OpenBox {
         requires { group < length self.now.part.picks }
         ensures { result ≡ pick_in self.now.part.picks group }
     {
-        self.picks[group as usize]
+        self.part.picks.as_slice()[group as usize]
     }
 
     /// The state that is named for an arc.
@@ -89,35 +70,26 @@ impl OpenBox {
         requires { arc < length self.now.part.states }
         ensures { result ≡ named_state self.now.part.states arc }
     {
-        self.states[arc as usize]
+        self.part.states.as_slice()[arc as usize]
     }
 
     /// The ends of a variable of the box.
     pub fn ends(&self, var: Var) -> Ends
         requires { IsTrue (is_in_box self.now.bounds var) }
         ensures value { result ≡ ends_of self.now.bounds var }
-        ensures limits { AreLimited var result }
+        ensures limits { AreLimited self.now.scale var result }
+        ensures scale { IsScale self.now.scale }
     {
-        match var {
-            Var::Flow(arc) => self.flows[arc as usize],
-            Var::Square(node) => self.squares[node as usize],
-        }
+        self.bounds.ends(var)
     }
 
     /// Gives a variable of the box these ends.
     pub fn put_ends(&mut self, var: Var, ends: Ends)
         requires var { IsTrue (is_in_box self.old.bounds var) }
-        requires ends { AreLimited var ends }
+        requires ends { AreLimited self.old.scale var ends }
         ensures { self.new ≡ with_bounds self.old (with_ends self.old.bounds var ends) }
     {
-        match var {
-            Var::Flow(arc) => {
-                self.flows[arc as usize] = ends;
-            }
-            Var::Square(node) => {
-                self.squares[node as usize] = ends;
-            }
-        }
+        self.bounds.put_ends(var, ends);
     }
 
     /// Picks a decision of a group, or none.
@@ -125,7 +97,7 @@ impl OpenBox {
         requires { group < length self.old.part.picks }
         ensures { self.new ≡ with_part self.old (put_pick self.old.part group pick) }
     {
-        self.picks[group as usize] = pick;
+        self.part.picks.put(group as usize, pick);
     }
 
     /// Names a state of an arc, or none.
@@ -133,6 +105,6 @@ impl OpenBox {
         requires { arc < length self.old.part.states }
         ensures { self.new ≡ with_part self.old (put_state self.old.part arc state) }
     {
-        self.states[arc as usize] = state;
+        self.part.states.put(arc as usize, state);
     }
 }

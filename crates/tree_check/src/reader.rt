@@ -11,11 +11,11 @@ ghost use Rattle.tree_check.specs.Undo.{before, undone, wait_at, waits_at, with_
 ghost use Rattle.tree_check.specs.Reading.{place_of, IsReaderOf, Says};
 
 use crate::branches::{advance, after_arc, after_group, after_halve, is_over, take_head};
-use crate::ends::with_end;
 use crate::frames::{Change, Expected, Frame, note_change};
 use crate::open_box::OpenBox;
 use crate::stack::Stack;
 use crate::steps::{closing_holds, step_holds};
+use box_ends::with_end;
 use gas_model::{NoMemory, Problem, Var};
 use std::alloc::Global;
 use tree_cert::{FaultKind, Head, Line, Step};
@@ -71,8 +71,9 @@ impl Reader {
 // Puts the box back to what it was before a change.
 fn undo(p: &Problem, b: &mut OpenBox, change: Change)
     requires fits { IsBoxAt p.now b.old }
-    requires change { IsChangeOf p.now change }
+    requires change { IsChangeOf p.now b.old.scale change }
     ensures back { b.new ≡ undone b.old change }
+    ensures scale { b.new.scale ≡ b.old.scale }
     ensures fits { IsBoxAt p.now b.new }
 {
     match change {
@@ -85,8 +86,9 @@ fn undo(p: &Problem, b: &mut OpenBox, change: Change)
 // The same of changes, the newest first.
 fn undo_all(p: &Problem, b: &mut OpenBox, mut changes: Stack<Change>)
     requires fits { IsBoxAt p.now b.old }
-    requires changes { AreChangesOf p.now changes }
+    requires changes { AreChangesOf p.now b.old.scale changes }
     ensures back { b.new ≡ before b.old changes }
+    ensures scale { b.new.scale ≡ b.old.scale }
     ensures fits { IsBoxAt p.now b.new }
 {
     while let Some(change) = changes.pop() {
@@ -119,7 +121,7 @@ fn end_box(alloc: Global, p: &Problem, r: &mut Reader) -> Result<(), NoMemory>
 // Goes on after a branch.
 fn begin(alloc: Global, p: &Problem, r: &mut Reader, expected: Expected) -> Result<(), NoMemory>
     requires reader { IsReaderOf p.now r.old }
-    requires expected { IsExpectedOf p.now expected }
+    requires expected { IsExpectedOf p.now r.old.here.scale expected }
     ensures goes_on { OnOk result (place_of p.now r.new ≡ after (rules_of p.now) (wait_at r.old.here expected ∷ waits_at r.old.here r.old.frames)) }
     ensures kept { OnOk result (IsReaderOf p.now r.new) }
 {
@@ -164,7 +166,7 @@ fn read_branch(
     expected: Option<Expected>,
 ) -> Result<(), Stop>
     requires reader { IsReaderOf p.now r.old }
-    requires expected { IfSome expected (IsExpectedOf p.now) }
+    requires expected { IfSome expected (IsExpectedOf p.now r.old.here.scale) }
     ensures said { (branch : Branch) → option_map (wait_at r.old.here) expected ≡ after_branch p.now r.old.here branch
         → Says result (place_of p.now r.new) (read_branch (rules_of p.now) r.old.here (waits_at r.old.here r.old.frames) branch) }
     ensures kept { OnOk result (IsReaderOf p.now r.new) }
@@ -198,7 +200,7 @@ fn read_inside(alloc: Global, p: &Problem, r: &mut Reader, line: &Line) -> Resul
             read_branch(alloc, p, r, expected)
         }
         Line::Arc(arc) => {
-            let expected = after_arc(alloc, p, &r.here, *arc)?;
+            let expected = after_arc(p, &r.here, *arc)?;
             read_branch(alloc, p, r, expected)
         }
         Line::Halve(var) => {
@@ -246,7 +248,7 @@ fn read_head(
     head: Head,
 ) -> Result<(), Stop>
     requires reader { IsReaderOf p.now r.old }
-    requires frame { AreFramesOf p.now (frame ∷ r.old.frames) }
+    requires frame { AreFramesOf p.now r.old.here.scale (frame ∷ r.old.frames) }
     ensures said { Says result (place_of p.now r.new) (read_expected (rules_of p.now) (wait_at (before r.old.here frame.changes) frame.expected) (waits_at (before r.old.here frame.changes) r.old.frames) (lines.Head head)) }
     ensures kept { OnOk result (IsReaderOf p.now r.new) }
 {
@@ -273,7 +275,7 @@ fn read_expected(
     line: &Line,
 ) -> Result<(), Stop>
     requires reader { IsReaderOf p.now r.old }
-    requires frame { AreFramesOf p.now (frame ∷ r.old.frames) }
+    requires frame { AreFramesOf p.now r.old.here.scale (frame ∷ r.old.frames) }
     ensures said { Says result (place_of p.now r.new) (read_expected (rules_of p.now) (wait_at (before r.old.here frame.changes) frame.expected) (waits_at (before r.old.here frame.changes) r.old.frames) line.now) }
     ensures kept { OnOk result (IsReaderOf p.now r.new) }
 {

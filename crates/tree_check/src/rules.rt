@@ -4,7 +4,7 @@ ghost use Rattle.gas_model.specs.Limits.{is_difference, is_ratio_part};
 ghost use Rattle.gas_model.specs.Laws.{drags, equals, shuts, loses, reduces, raises};
 ghost use Rattle.tree_rules.specs.ArcRules.{arc_step, arc_closing};
 ghost use Rattle.tree_check.specs.ArcSides.{ends_of_sides, var_of_side, law_of_form, IsFormWithin, AreSafeSides, IsSafeAt};
-ghost use Rattle.tree_check.specs.Held.{IsScale};
+ghost use Rattle.gas_model.specs.BoxLimits.{IsScale};
 
 use crate::arc_rules::{
     ArcSide, ArcSides, along_step, drop_closing, drop_step, equal_step, fall_closing, fall_step,

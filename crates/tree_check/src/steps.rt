@@ -3,7 +3,8 @@ ghost use Rattle.std.specs.Prelude.{◌≡◌, ◌&&◌};
 ghost use Rattle.gas_model.specs.Boxes.{is_var, is_empty, ends_of, may_become};
 ghost use Rattle.tree_rules.specs.ArcRules.{keeps_sign};
 ghost use Rattle.tree_rules.specs.Rules as spec;
-ghost use Rattle.tree_check.specs.Held.{AreLimited, IsSafe, IsBoxAt};
+ghost use Rattle.element_laws.specs.Sizes.{IsSafe, AreSafe};
+ghost use Rattle.tree_check.specs.Held.{IsBoxAt};
 
 use crate::balance::{balance_closing, balance_step};
 use crate::cuts::cuts;
@@ -24,7 +25,7 @@ pub fn is_var(p: &Problem, var: Var) -> bool
 
 // Whether an end may become the value: it moves inward, and at most one past the other end.
 fn may_become(var: Var, low: bool, value: i128, ends: Ends) -> bool
-    requires { AreLimited var ends }
+    requires { AreSafe var ends }
     ensures { result ≡ may_become low value ends }
 {
     if low {

@@ -4,8 +4,9 @@ use Rattle.std.proofs.lemmas.Option.{slice_get_within}
 use Rattle.gas_model.specs.declared.rows.Ends.{Ends}
 use Rattle.tree_rules.specs.Rules.{flow_lo, flow_hi}
 use Rattle.tree_check.proofs.LawFacts.{arc_vars}
-use Rattle.tree_check.proofs.HeldEnds.{safe_flows}
-use Rattle.tree_check.proofs.NodeFlows.{node_supplies, leaving_is, entering_is, flow_leaves, flow_enters}
+use Rattle.element_laws.proofs.BoxEnds.{safe_flows}
+use Rattle.gas_model.proofs.LimitFacts.{node_supplies}
+use Rattle.tree_check.proofs.NodeFlows.{leaving_is, entering_is, flow_leaves, flow_enters}
 use Rattle.tree_check.proofs.balance.flow_step.Goals as goal
 
 pub supply_of-supply-requires-clause-low : goal.supply_of-supply-requires-clause-low
@@ -18,10 +19,10 @@ pub ends-q-requires : goal.ends-q-requires
 ends-q-requires c = (arc_vars c.args.p.now c.args.b.now c.args.arc c.args.row.now c.requires.fits c.requires.row).q
 
 pub leaves_with-requires-clause-flow : goal.leaves_with-requires-clause-flow
-leaves_with-requires-clause-flow c = safe_flows c.ends-q.result c.ends-q.ensures.limits
+leaves_with-requires-clause-flow c = safe_flows c.args.b.now.scale c.ends-q.result c.ends-q.ensures.scale c.ends-q.ensures.limits
 
 pub enters_with-requires-clause-flow : goal.enters_with-requires-clause-flow
-enters_with-requires-clause-flow c = safe_flows c.ends-q.result c.ends-q.ensures.limits
+enters_with-requires-clause-flow c = safe_flows c.args.b.now.scale c.ends-q.result c.ends-q.ensures.scale c.ends-q.ensures.limits
 
 pub returns-then-row-node : goal.returns-then-row-node
 returns-then-row-node c =

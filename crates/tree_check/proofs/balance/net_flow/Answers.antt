@@ -4,10 +4,11 @@ use Rattle.std.specs.Int.{w128}
 use Rattle.std.proofs.lemmas.Option.{slice_get_read}
 use borrow.Author.Tests.{lt-ltb}
 use Rattle.gas_model.specs.declared.rows.Ends.{Ends}
-use Rattle.element_laws.proofs.NetFlows.{arc_within, few_at, whole_rest}
+use Rattle.gas_model.proofs.NodeSums.{NetSums, arc_within, few_at, net_step, net_whole, whole_rest}
+use Rattle.element_laws.specs.Sizes.{most_flow}
 use Rattle.tree_rules.specs.Rules.{flow_lo, flow_hi}
 use Rattle.tree_check.proofs.SideFits.{flow_fits}
-use Rattle.tree_check.proofs.NodeFlows.{NetSums, net_step, net_size, sum_fits, net_whole}
+use Rattle.tree_check.proofs.NodeFlows.{net_size, sum_fits}
 use Rattle.tree_check.proofs.balance.net_flow.Goals as goal
 
 pub bounds-arcs-arc : goal.bounds-arcs-arc
@@ -40,8 +41,8 @@ loop-arc-preserved c =
     let here : slice_get arcs (get_or at k 0) ≡ Some row = slice_get_read arcs (length arcs) (get_or at k 0) row refl below is in
     let ql : q.lo ≡ fl (get_or at k 0) = ap (λ (e : Ends). e.lo) c.ends-q.ensures.value in
     let qh : q.hi ≡ fh (get_or at k 0) = ap (λ (e : Ends). e.hi) c.ends-q.ensures.value in
-    let low = net_step fl fh arcs c.args.node at k lo term.lo q.lo q.hi row c.loop-arc.invariant.0 c.loop-arc-test.true here ql qh c.taken-term.ensures.safe.lo c.taken-term.ensures.lo in
-    let high = net_step fh fl arcs c.args.node at k hi term.hi q.hi q.lo row c.loop-arc.invariant.1 c.loop-arc-test.true here qh ql c.taken-term.ensures.safe.hi c.taken-term.ensures.hi in
+    let low = net_step most_flow fl fh arcs c.args.node at k lo term.lo q.lo q.hi row c.loop-arc.invariant.0 c.loop-arc-test.true here ql qh c.taken-term.ensures.safe.lo c.taken-term.ensures.lo in
+    let high = net_step most_flow fh fl arcs c.args.node at k hi term.hi q.hi q.lo row c.loop-arc.invariant.1 c.loop-arc-test.true here qh ql c.taken-term.ensures.safe.hi c.taken-term.ensures.hi in
     let few : k + 1 ≤ 2000 = omega (arith, few_at arcs c.args.node at c.arcs_at-at.ensures.arcs, c.arcs_at-at.ensures.within.few_arcs) in
     let lo_fits : FitsSigned w128 (lo +ℤ term.lo) = sum_fits (lo +ℤ term.lo) (net_size fl fh arcs c.args.node at (k + 1) (lo +ℤ term.lo) low few) in
     let hi_fits : FitsSigned w128 (hi +ℤ term.hi) = sum_fits (hi +ℤ term.hi) (net_size fh fl arcs c.args.node at (k + 1) (hi +ℤ term.hi) high few) in
@@ -57,7 +58,7 @@ returns-clause-lo c =
     let y = flow_hi c.args.b.now.bounds in
     let total = to_z w128 c.loop-arc.lo-bits in
     let done : c.loop-arc.arc-index ≡ length at = omega arith in
-    net_whole x y arcs c.args.node at total (whole_rest arcs c.arcs_at-at.ensures.within.apart) c.arcs_at-at.ensures.arcs (subst (λ (k : ℕ). NetSums x y arcs c.args.node at k total) done c.loop-arc.invariant.0)
+    net_whole most_flow x y arcs c.args.node at total (whole_rest arcs c.arcs_at-at.ensures.within.apart) c.arcs_at-at.ensures.arcs (subst (λ (k : ℕ). NetSums most_flow x y arcs c.args.node at k total) done c.loop-arc.invariant.0)
 
 pub returns-clause-hi : goal.returns-clause-hi
 returns-clause-hi c =
@@ -67,7 +68,7 @@ returns-clause-hi c =
     let y = flow_lo c.args.b.now.bounds in
     let total = to_z w128 c.loop-arc.hi-bits in
     let done : c.loop-arc.arc-index ≡ length at = omega arith in
-    net_whole x y arcs c.args.node at total (whole_rest arcs c.arcs_at-at.ensures.within.apart) c.arcs_at-at.ensures.arcs (subst (λ (k : ℕ). NetSums x y arcs c.args.node at k total) done c.loop-arc.invariant.1)
+    net_whole most_flow x y arcs c.args.node at total (whole_rest arcs c.arcs_at-at.ensures.within.apart) c.arcs_at-at.ensures.arcs (subst (λ (k : ℕ). NetSums most_flow x y arcs c.args.node at k total) done c.loop-arc.invariant.1)
 
 pub returns-clause-sums : goal.returns-clause-sums
 returns-clause-sums c =

@@ -2,7 +2,8 @@ use Rattle.std.proofs.Common.{◌∙◌, rules, to_z-of_z, FitsSigned}
 use Rattle.std.specs.Int.{w128}
 use Rattle.std.proofs.lemmas.Option.{slice_get_within}
 use Rattle.tree_check.specs.Balance.{net_low, net_high}
-use Rattle.tree_check.proofs.NodeFlows.{node_supplies, beyond_is}
+use Rattle.gas_model.proofs.LimitFacts.{node_supplies}
+use Rattle.tree_check.proofs.NodeFlows.{beyond_is}
 use Rattle.tree_check.proofs.balance.node_closing.Goals as goal
 
 pub supply_of-requires-clause-low : goal.supply_of-requires-clause-low

@@ -1,5 +1,6 @@
-use Rattle.std.proofs.Common.{Some}
-use Rattle.tree_check.proofs.Undoing.{moved_back, picked_back, named_back, old_pick, old_state, pick_at, state_at}
+use Rattle.std.proofs.Common.{Some, rules, to_z-of_z, FitsSigned}
+use Rattle.std.specs.Int.{w128}
+use Rattle.tree_check.proofs.Undoing.{moved_back, picked_back, named_back, old_pick, old_state, pick_at, state_at, end_limited}
 use Rattle.tree_check.proofs.branches.take_head.Goals as goal
 
 pub returns-in-Take-clause-back : goal.returns-in-Take-clause-back
@@ -30,3 +31,10 @@ returns-in-State-clause-fits c =
 
 pub returns-in-Half-clause-back : goal.returns-in-Half-clause-back
 returns-in-Half-clause-back c = rw (c.put_ends.ensures, c.ends-ends.ensures.value) (moved_back c.args.b.now c.in-Half.var _)
+
+pub put_ends-requires-clause-ends : goal.put_ends-requires-clause-ends
+put_ends-requires-clause-ends c =
+    let head = rw c.in-Half.is at c.requires.head in
+    let fits : FitsSigned w128 c.in-Half.value = search rules in
+    let moved = simp (to_z-of_z, fits) at c.with_end.ensures in
+    rw moved (end_limited c.args.b.now.scale c.in-Half.var c.in-Half.low c.in-Half.value c.ends-ends.result c.ends-ends.ensures.limits head.1)

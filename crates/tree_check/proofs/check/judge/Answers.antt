@@ -6,7 +6,7 @@ use Rattle.tree_rules.specs.Branches.{rules_of}
 use Rattle.tree_cert.specs.declared.fault.TreeFault.TheVariants as fault
 use Rattle.tree_check.specs.Reading.{place_of}
 use Rattle.tree_check.specs.Verdicts.{passing}
-use Rattle.tree_check.proofs.NumberFits.{scale_fits}
+use Rattle.element_laws.proofs.ScaledFits.{scale_fits}
 use Rattle.tree_check.proofs.Judging.{lines_cut, lines_none, first_stop, line_stop, text_ends, text_breaks, answered, answered_stop, not_ended, ended}
 use Rattle.tree_check.proofs.check.judge.Goals as goal
 

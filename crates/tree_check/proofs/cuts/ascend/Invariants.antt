@@ -1,5 +1,5 @@
 use Rattle.std.proofs.Common.{◌≡◌, drop}
-use Rattle.tree_rules.specs.NodeRules.{ascends_after}
+use Rattle.tree_cert.specs.Spelling.{ascends_after}
 use Rattle.tree_check.specs.Cuts.{ascends}
 use Rattle.tree_check.proofs.cuts.ascend.Given as goal
 

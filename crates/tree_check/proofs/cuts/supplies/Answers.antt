@@ -5,8 +5,7 @@ use Rattle.std.specs.Int.{w128}
 use Rattle.std.proofs.lemmas.Option.{slice_get_read}
 use Rattle.gas_model.specs.declared.rows.NodeRow.{NodeRow}
 use Rattle.tree_rules.specs.NodeRules.{least_supply, greatest_supply}
-use Rattle.element_laws.proofs.NearFits.{flow_size}
-use Rattle.tree_check.proofs.NodeFlows.{node_supplies}
+use Rattle.gas_model.proofs.LimitFacts.{flow_size, node_supplies}
 use Rattle.tree_check.proofs.CutNodes.{supply_step, supply_fits, inside_at, few_nodes, small_flow, wide_flow}
 use Rattle.tree_check.proofs.cuts.supplies.Goals as goal
 

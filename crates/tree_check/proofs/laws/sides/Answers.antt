@@ -1,5 +1,5 @@
 use Rattle.std.proofs.Common.{refl}
-use Rattle.tree_check.proofs.HeldEnds.{safe_flows, safe_squares}
+use Rattle.element_laws.proofs.BoxEnds.{safe_flows, safe_squares}
 use Rattle.tree_check.proofs.LawFacts.{arc_vars}
 use Rattle.tree_check.proofs.laws.sides.Goals as goal
 
@@ -16,8 +16,8 @@ pub returns : goal.returns
 returns c = record {
   ends = rw (c.ends-q.ensures.value, c.ends-u.ensures.value, c.ends-v.ensures.value) refl;
   safe = record {
-    q = safe_flows c.ends-q.result c.ends-q.ensures.limits;
-    u = safe_squares c.ends-u.result c.ends-u.ensures.limits;
-    v = safe_squares c.ends-v.result c.ends-v.ensures.limits;
+    q = safe_flows c.args.b.now.scale c.ends-q.result c.ends-q.ensures.scale c.ends-q.ensures.limits;
+    u = safe_squares c.args.b.now.scale c.ends-u.result c.ends-u.ensures.scale c.ends-u.ensures.limits;
+    v = safe_squares c.args.b.now.scale c.ends-v.result c.ends-v.ensures.scale c.ends-v.ensures.limits;
   };
 }
