@@ -6,7 +6,7 @@ use Rattle.gas_model.specs.declared.rows.Var.{Var}
 use Rattle.gas_model.specs.declared.rows.Var.TheVariants.{Flow, Square}
 use Rattle.gas_model.specs.Boxes.{ends_of, flow_ends, square_ends, is_in_box, is_var, is_empty, opening}
 use Rattle.gas_model.specs.Rows.{Network}
-use Rattle.box_core.specs.Empty.{LeavesNone}
+use Rattle.box_ends.specs.Empty.{LeavesNone}
 use Rattle.tree_cert.specs.declared.line.Closing.TheVariants.{Empty}
 use Rattle.tree_cert.specs.declared.line.Line.TheVariants as lines
 use Rattle.tree_cert.specs.Spelling.{AreLines}

@@ -1,14 +1,13 @@
 -- The first state that first decisions leave an arc, and the states of all arcs.
 use Rattle.std.proofs.Common.{◌≡◌, ◌∙◌, ap, sym, refl, ℕ, zero, suc, ◌+◌, ◌<◌, List, [], ◌∷◌, ◌++◌, length, map, take, get_or, Option, Some, unwrap_or, Bool, arith}
 use Rattle.std.specs.Prelude.{find, slice_get, replicate}
-use Rattle.std.specs.List.{list_all}
 use Rattle.gas_model.specs.declared.rows.ArcKind.{ArcKind}
 use Rattle.gas_model.specs.declared.rows.ArcRow.{ArcRow}
 use Rattle.gas_model.specs.declared.rows.ArcState.{ArcState}
 use Rattle.gas_model.specs.declared.rows.ArcState.TheVariants.{Opened}
 use Rattle.gas_model.specs.declared.rows.Ruling.{Ruling}
 use Rattle.gas_model.specs.Rows.{Network}
-use Rattle.gas_model.specs.Choices.{allows, states_of, words_for}
+use Rattle.gas_model.specs.Choices.{picks_allow, states_of}
 use Rattle.gas_model.specs.Rulings.{rulings_at, all_leave, pick_in}
 use Rattle.gas_model.proofs.RuledWords.{words_leave}
 use Rattle.std.proofs.lemmas.Option.{slice_get-get_or, get_or_from_slice_get}
@@ -20,7 +19,7 @@ pub some_first : (n : ℕ) → replicate {A = Option ℕ} n (Some 0) ≡ map Som
 some_first zero = refl
 some_first (suc n) = ap (λ l. Some 0 ∷ l) (some_first n)
 
-tests_agree : (p : Network) (a : ℕ) → ◌≡◌ {A = ArcState → Bool} (λ state. all_leave (pick_in (map Some (first_picks p))) state (rulings_at p.groups a)) (λ state. list_all (λ word. allows word state) (words_for p.groups (map Some (first_picks p)) a))
+tests_agree : (p : Network) (a : ℕ) → ◌≡◌ {A = ArcState → Bool} (λ state. all_leave (pick_in (map Some (first_picks p))) state (rulings_at p.groups a)) (picks_allow p.groups (map Some (first_picks p)) a)
 tests_agree p a = λ j state. (sym (words_leave p.groups (map Some (first_picks p)) a state)) j
 
 -- what was found among the states of the kind is the first state

@@ -1,6 +1,5 @@
 -- The setting in which nothing flows, each choice is the first, and each square is at the middle of its bounds.
 use Rattle.std.specs.Prelude.{ℕ, ◌+◌, ℤ, pos, ◌+ℤ◌, List, [], ◌∷◌, length, map, find, replicate, int_div, Some, unwrap_or}
-use Rattle.std.specs.List.{list_all}
 use Rattle.gas_model.specs.declared.rows.NodeRow.{NodeRow}
 use Rattle.gas_model.specs.declared.rows.ArcRow.{ArcRow}
 use Rattle.gas_model.specs.declared.rows.ArcState.{ArcState}
@@ -8,7 +7,7 @@ use Rattle.gas_model.specs.declared.rows.ArcState.TheVariants.{Opened}
 use Rattle.gas_model.specs.declared.rows.Setting.{Setting}
 use Rattle.gas_model.specs.Curves.{square}
 use Rattle.gas_model.specs.Rows.{Network}
-use Rattle.gas_model.specs.Choices.{allows, states_of, words_for}
+use Rattle.gas_model.specs.Choices.{picks_allow, states_of}
 
 -- the middle of the bounds of the squared pressure, rounded down; the bounds are never negative
 abbrev pub middle_square : NodeRow → ℤ
@@ -21,7 +20,7 @@ first_picks p = replicate (length p.groups) 0
 -- the first state of the arc a that its group's first decision allows
 abbrev pub first_state : Network → ℕ → ArcRow → ArcState
 first_state p a row =
-    unwrap_or (find (λ state. list_all (λ word. allows word state) (words_for p.groups (map Some (first_picks p)) a)) (states_of row.kind)) Opened
+    unwrap_or (find (picks_allow p.groups (map Some (first_picks p)) a) (states_of row.kind)) Opened
 
 -- of arcs that are numbered from a
 abbrev pub first_states_from : Network → ℕ → List ArcRow → List ArcState

@@ -1,7 +1,7 @@
 // What is found for a problem.
 ghost use Rattle.std.specs.Prelude.{◌≡◌, ◌≤◌, ℕ, pos, Some, IfOk, IfSome, MatchOption};
 ghost use Rattle.gas_model.specs.Near.{IsNear};
-ghost use Rattle.box_core.specs.Empty.{LeavesNone};
+ghost use Rattle.box_ends.specs.Empty.{LeavesNone};
 ghost use Rattle.gas_model.specs.Boxes.{opening};
 ghost use Rattle.setting_text.specs.Writing.{setting_text};
 ghost use Rattle.tree_cert.specs.Spelling.{AreLines};
