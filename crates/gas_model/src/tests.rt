@@ -127,20 +127,14 @@ fn nothing_is_picked_or_named_at_first(rt: HostRuntime) -> Result<(), Fail> {
 #[test]
 fn the_first_offence_is_answered(rt: HostRuntime) -> Result<(), Fail> {
     let alloc = rt.alloc();
-    let offences = [
-        offence(alloc, "b", 100_000_001, "a", "c")?,
-        offence(alloc, "a", 9, "a", "c")?,
-        offence(alloc, "b", 9, "a", "c")?,
-        offence(alloc, "b", 9, "b", "b")?,
-    ];
-    assert_eq!(rt;
-        offences,
-        ["over limit", "twice named", "no such node", "same ends"]
-    );
+    assert_eq!(rt; offence(alloc, "b", 100_000_001, "a", "c")?, "over limit");
+    assert_eq!(rt; offence(alloc, "a", 9, "a", "c")?, "twice named");
+    assert_eq!(rt; offence(alloc, "b", 9, "a", "c")?, "no such node");
+    assert_eq!(rt; offence(alloc, "b", 9, "b", "b")?, "same ends");
     Ok(())
 }
 
-// A decision with one word for an arc.
+// A decision with a word for the arc of this name, where there is one.
 fn decision(alloc: Global, id: &str, arc: &str, allow: Allow) -> Result<DecisionText, NoMemory> {
     let mut sets = List::new(alloc);
     sets.push(SetText {
@@ -209,16 +203,16 @@ fn group_offence(
 fn a_group_speaks_of_valves_and_stations(rt: HostRuntime) -> Result<(), Fail> {
     let alloc = rt.alloc();
     let shut = ("v", Allow::Shut);
-    let offences = [
-        group_offence(alloc, shut, ("w", Allow::Shut))?,
-        group_offence(alloc, shut, ("p", Allow::Shut))?,
-        group_offence(alloc, ("v", Allow::On), shut)?,
-        group_offence(alloc, shut, ("v", Allow::Opened))?,
-    ];
     assert_eq!(rt;
-        offences,
-        ["no such arc", "not active", "not active", "none"]
+        group_offence(alloc, shut, ("w", Allow::Shut))?,
+        "no such arc"
     );
+    assert_eq!(rt;
+        group_offence(alloc, shut, ("p", Allow::Shut))?,
+        "not active"
+    );
+    assert_eq!(rt; group_offence(alloc, ("v", Allow::On), shut)?, "not active");
+    assert_eq!(rt; group_offence(alloc, shut, ("v", Allow::Opened))?, "none");
     Ok(())
 }
 
@@ -255,54 +249,6 @@ fn a_picked_decision_fixes_the_valve(rt: HostRuntime) -> Result<(), Fail> {
         Some([open, Some(ArcState::Shut), None])
     );
     assert_eq!(rt; fixed(alloc, &p, 1)?, Some([open, None, None]));
-    Ok(())
-}
-
-// How many states the pick of this decision leaves to the station, and whether its branch is open.
-fn left(alloc: Global, p: &Problem, pick: u32) -> Result<Option<(usize, bool)>, NoMemory> {
-    let groups = p.groups();
-    if groups.len() != 1
-        || p.arcs().len() != 3
-        || pick as usize >= groups[0].decisions.as_slice().len()
-    {
-        return Ok(None);
-    }
-    let part = PartState {
-        picks: List::filled(alloc, Some(pick), 1)?,
-        states: List::filled(alloc, None, 3)?,
-    };
-    Ok(Some((p.allowed_states(&part, 2)?.len(), p.is_free(&part, 2))))
-}
-
-fn left_by_each(alloc: Global, p: &Problem) -> Result<[Option<(usize, bool)>; 2], NoMemory> {
-    Ok([left(alloc, p, 0)?, left(alloc, p, 1)?])
-}
-
-// Whether the station may be bypassed or shut under the second decision, and the valve open under the first.
-fn may_be(p: &Problem) -> Option<[bool; 3]> {
-    if p.arcs().len() != 3 {
-        return None;
-    }
-    Some([
-        p.may_be(&[1], 2, ArcState::Bypass),
-        p.may_be(&[1], 2, ArcState::Shut),
-        p.may_be(&[0], 1, ArcState::Opened),
-    ])
-}
-
-// The first decision says nothing of the station; the second turns it on.
-#[test]
-fn a_station_that_is_on_is_active_or_bypassed(rt: HostRuntime) -> Result<(), Fail> {
-    let alloc = rt.alloc();
-    let p = Problem::make(alloc, decided(alloc, ("v", Allow::Shut), ("c", Allow::On))?)?;
-    let counts = left_by_each(alloc, &p)?;
-    assert_eq!(rt;
-        (counts, may_be(&p)),
-        (
-            [Some((3, true)), Some((2, true))],
-            Some([true, false, false])
-        )
-    );
     Ok(())
 }
 
