@@ -52,6 +52,13 @@ impl<G: Grid> VarBox<G> {
         })
     }
 
+    /// The same box, with its scale as a number.
+    pub fn scaled(&self) -> &ScaledBox
+        ensures { result.now ≡ record { scale = G.SCALE; bounds = self.now } }
+    {
+        &self.scaled
+    }
+
     /// The lower and the upper end of a variable of the box.
     pub fn ends(&self, var: Var) -> (i128, i128)
         requires { IsTrue (is_in_box self.now var) }

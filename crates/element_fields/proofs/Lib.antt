@@ -1,3 +1,4 @@
 pub mod Rows
+pub mod Folds
 pub mod FileReads
 pub mod Far

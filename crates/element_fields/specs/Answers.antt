@@ -31,3 +31,8 @@ found_or e (Some x) = Ok x
 abbrev pub rows_of : {A B : Type 0} → (A → Result B FileFault) → List A → Result (List B) FileFault
 rows_of read [] = Ok []
 rows_of read (x ∷ xs) = read x >>= λ row. rows_of read xs >>= λ rows. Ok (row ∷ rows)
+
+-- the state after each of these was taken in, in order, or the first fault
+abbrev pub fold_of : {A S : Type 0} → (S → A → Result S FileFault) → S → List A → Result S FileFault
+fold_of take s [] = Ok s
+fold_of take s (x ∷ xs) = take s x >>= λ t. fold_of take t xs

@@ -38,3 +38,11 @@ children depth (e ∷ es) =
     if nat_le e.depth depth then []
     else if e.depth == depth + 1 then (e, es) ∷ children depth es
     else children depth es
+
+-- all children of a name, among the elements that follow one at a depth
+abbrev pub children_named : ℕ → List ℕ → List Element → List Placed
+children_named depth name [] = []
+children_named depth name (e ∷ es) =
+    if nat_le e.depth depth then []
+    else if is_child depth name e then (e, es) ∷ children_named depth name es
+    else children_named depth name es

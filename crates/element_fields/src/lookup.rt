@@ -32,7 +32,8 @@ pub fn child<'a>(
     name: &str,
     below: &'a [Element],
 ) -> Option<(&'a Element, &'a [Element])>
-    ensures { option_map (λ x. (x.0.now, x.1.now)) result ≡ child depth name.now below.now }
+    ensures exact { option_map (λ x. (x.0.now, x.1.now)) result ≡ child depth name.now below.now }
+    ensures shorter { IfSome result (λ x. length x.1.now < length below.now) }
 {
     for (i, e) in below.iter().enumerate() {
         if e.depth <= depth {

@@ -40,8 +40,8 @@ pub fn ratio_square(part: i64, s: i128) -> i128
     part * part * s
 }
 
-// A difference of pressures times the root of the scale.
-fn root_times(scale: i128, d: i64) -> i128
+/// A difference of pressures `d`, from 0 to 4 * 10^8 Pa, times the root of the scale.
+pub fn root_times(scale: i128, d: i64) -> i128
     requires scale { IsScale scale }
     requires d { IsTrue (is_difference d) }
     ensures wide { IsTrue (is_wide_difference result) }

@@ -3,7 +3,7 @@ pub mod Formed
 pub mod Grouped
 pub mod KindTexts
 pub mod Passing
-pub mod Remade
+pub mod Within
 pub mod Spaced
 pub mod Spelled
 pub mod Whole

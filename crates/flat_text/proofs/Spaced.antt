@@ -4,7 +4,7 @@ use Rattle.std.specs.Prelude.{◌==◌, nat_le}
 use Rattle.std.specs.Int.{w64, saturate_signed}
 use Rattle.std.specs.List.{list_all}
 use Rattle.std.specs.Str.{is_utf8}
-use Rattle.std.proofs.lemmas.Bool.{eqb-true}
+use Rattle.std.proofs.lemmas.Bool.{eqb-true, and_parts}
 use Rattle.std.proofs.lemmas.Bool.Decides.{nat_tests}
 use Rattle.std.proofs.lemmas.Int.{ints}
 use lib.Signed.{mag}
@@ -13,7 +13,7 @@ use Rattle.gas_model.specs.declared.rows.Drag.{Drag}
 use Rattle.line_text.specs.Numerals.{signed_numeral}
 use Rattle.line_text.specs.Words.{word_len, is_field}
 use Rattle.line_text.specs.Words as words
-use Rattle.line_text.proofs.Fields.{IsVisible, and_parts, visible_field, field_again, field_takes, field_form, number_field_again, number_field_takes}
+use Rattle.line_text.proofs.Fields.{IsVisible, visible_field, field_again, field_takes, field_form, number_field_again, number_field_takes}
 use Rattle.flat_text.specs.declared.fault.LineFault.{LineFault}
 use Rattle.flat_text.specs.declared.fault.LineFault.TheVariants as fault
 use Rattle.flat_text.specs.Spelling.{spaced}

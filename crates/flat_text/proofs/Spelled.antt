@@ -5,6 +5,7 @@ use Rattle.std.specs.List.{list_all}
 use Rattle.std.specs.Str.{bytes_eq, IsAscii}
 use Rattle.std.proofs.lemmas.Bool.Decides.{nat_tests}
 use Rattle.std.proofs.lemmas.Str.{IsUtf8-from_ascii, is_utf8-from_IsUtf8}
+use Rattle.std.proofs.lemmas.Bool.{and_parts}
 use Rattle.gas_model.specs.declared.rows.NodeRow.{NodeRow}
 use Rattle.gas_model.specs.declared.rows.Allow.{Allow}
 use Rattle.gas_model.specs.declared.rows.Allow.TheVariants.{Opened, Shut, Active, Bypass, On}
@@ -16,7 +17,7 @@ use Rattle.gas_model.specs.Limits.{is_id, is_pressure, is_flow, is_kind_within, 
 use Rattle.line_text.specs.Lines.{HasNoFeed}
 use Rattle.line_text.specs.Numerals.{signed_numeral}
 use Rattle.line_text.specs.Words.{word_len, joined, is_field}
-use Rattle.line_text.proofs.Fields.{IsVisible, and_parts, visible_no_feed, word_cut, visible_field, signed_visible}
+use Rattle.line_text.proofs.Fields.{IsVisible, visible_no_feed, word_cut, visible_field, signed_visible}
 use Rattle.flat_text.specs.declared.fault.LineFault.{LineFault}
 use Rattle.flat_text.specs.declared.line.Item.{Item}
 use Rattle.flat_text.specs.declared.line.Item.TheVariants.{Node, Arc, Group, Decision, Set}

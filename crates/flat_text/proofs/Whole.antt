@@ -12,6 +12,7 @@ use Rattle.gas_model.specs.declared.rows.GroupText.{GroupText}
 use Rattle.gas_model.specs.declared.rows.Rows.{Rows}
 use Rattle.gas_model.specs.declared.rows.ModelFault.{ModelFault}
 use Rattle.gas_model.specs.Rows.{Network, rows_fault, network_of, problem_of, answer, rows_of, IsProblem}
+use Rattle.gas_model.proofs.Remade.{clean_rows, rows_back as rows_made}
 use Rattle.line_text.specs.Lines.{HasNoFeed}
 use Rattle.line_text.specs.Words.{joined}
 use Rattle.flat_text.specs.declared.fault.LineFault.{LineFault}
@@ -29,7 +30,7 @@ use Rattle.flat_text.proofs.Spaced.{no_length}
 use Rattle.flat_text.proofs.Spelled.{item_again, end_again, line_takes, item_takes, item_feedless}
 use Rattle.flat_text.proofs.Grouped.{node_items, arc_items, decision_items, group_items, items_of, AreStanding, items_kept, items_stand, rows_back}
 use Rattle.flat_text.proofs.Passing.{numbered_ok, item_of, end_of, turned, line_passed}
-use Rattle.flat_text.proofs.Remade.{AreWithin, whole_rows}
+use Rattle.flat_text.proofs.Within.{AreWithin, rows_within}
 
 -- the text of an item
 abbrev pub item_text : Item → List ℕ
@@ -152,7 +153,7 @@ answered (Some f) p q e = absurd cc
 rows_kept : (rows : Rows) (p : Network) → modelled (problem_of rows) ≡ Ok p → rows_of p ≡ rows
 rows_kept rows p e =
     let a = answered (rows_fault rows) (network_of rows) p e in
-    ap rows_of (sym a.1) ∙ (whole_rows rows a.0).back
+    ap rows_of (sym a.1) ∙ rows_made rows (clean_rows rows a.0)
 
 -- a text that is read is the text of its problem
 pub text_takes : (bytes : List ℕ) (p : Network) → flat_of bytes ≡ Ok p → bytes ≡ flat_text p
@@ -181,7 +182,7 @@ items_again n place (x ∷ xs) stand within =
 
 rows_again : (rows : Rows) → rows_fault rows ≡ None → rows_at (rows_text rows) ≡ Ok rows
 rows_again rows clean =
-    ap rows_at (sym (items_text rows)) ∙ ap (λ (r : Result (List Item) FlatFault). r >>= λ items. Ok (rows_in items)) (items_again 2 part.Nodes (items_of rows) (items_stand rows) (whole_rows rows clean).within)
+    ap rows_at (sym (items_text rows)) ∙ ap (λ (r : Result (List Item) FlatFault). r >>= λ items. Ok (rows_in items)) (items_again 2 part.Nodes (items_of rows) (items_stand rows) (rows_within rows clean))
     ∙ ap (λ (r : Rows). Ok r) (rows_back rows)
 
 head_again : (rest : List ℕ) → after_head (head_line ++ rest) ≡ Ok rest

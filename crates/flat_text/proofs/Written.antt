@@ -7,6 +7,7 @@ use Rattle.std.specs.Option.{option_map_or}
 use Rattle.std.proofs.lemmas.Bool.Decides.{leb_tells}
 use Rattle.std.proofs.lemmas.List.Concat.{flat_map-append}
 use Rattle.std.proofs.lemmas.Option.{slice_get_within}
+use Rattle.std.proofs.lemmas.Bool.{and_parts}
 use Rattle.gas_model.specs.declared.rows.ArcRow.{ArcRow}
 use Rattle.gas_model.specs.declared.rows.ArcText.{ArcText}
 use Rattle.gas_model.specs.declared.rows.Allow.{Allow}
@@ -17,7 +18,6 @@ use Rattle.gas_model.specs.Rows.{Network, takes}
 use Rattle.gas_model.specs.Rulings.{GroupsDecideArcs}
 use Rattle.gas_model.specs.Within.{is_set_within, is_decision_within, is_group_within, IsWithin}
 use Rattle.line_text.specs.Words.{joined}
-use Rattle.line_text.proofs.Fields.{and_parts}
 use Rattle.flat_text.specs.Spelling.{spaced, kind_word, kind_numbers, arc_fields, arc_line}
 
 all_get : {A : Type 0} (p : A → Bool) (xs : List A) (i : ℕ) (x : A) → list_all p xs ≡ true → slice_get xs i ≡ Some x → p x ≡ true

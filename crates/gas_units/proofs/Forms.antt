@@ -3,7 +3,7 @@ use Rattle.std.proofs.Common.{◌≡◌, ℕ, ◌+◌, ◌++◌, List, [], ◌�
 use Rattle.std.specs.Prelude.{◌==◌}
 use Rattle.std.specs.List.{list_all}
 use Rattle.std.specs.Char.{is_ascii_digit, is_ascii_whitespace}
-use Rattle.std.proofs.lemmas.Bool.{eqb-true, le-leb, lt-leb}
+use Rattle.std.proofs.lemmas.Bool.{eqb-true, le-leb, lt-leb, and_parts}
 use Rattle.gas_units.specs.declared.decimal.Mode.{Mode}
 use Rattle.gas_units.specs.declared.decimal.Mode.TheVariants as mode
 use Rattle.gas_units.specs.Decimals.{next, onward, form_fault, is_sign, is_exponent_mark}
@@ -115,13 +115,9 @@ Good m bytes = (at : ℕ) → form_fault m at bytes ≡ None
 goes : (m k : Mode) (b : ℕ) (bytes : List ℕ) → next m b ≡ Some k → Good k bytes → Good m (b ∷ bytes)
 goes m k b bytes e g at = ap (onward (λ j. form_fault j (at + 1) bytes) at) e ∙ g (at + 1)
 
-both : (a b : Bool) → (a && b) ≡ true → (a ≡ true) × (b ≡ true)
-both true b e = (refl, e)
-both false b e = absurd cc
-
 through : (p : ℕ → Bool) (m : Mode) (run rest : List ℕ) → ((b : ℕ) → p b ≡ true → next m b ≡ Some m) → list_all p run ≡ true → Good m rest → Good m (run ++ rest)
 through p m [] rest on y g = g
-through p m (b ∷ run) rest on y g = let h = both (p b) (list_all p run) y in goes m m b (run ++ rest) (on b h.0) (through p m run rest on h.1 g)
+through p m (b ∷ run) rest on y g = let h = and_parts (p b) (list_all p run) y in goes m m b (run ++ rest) (on b h.0) (through p m run rest on h.1 g)
 
 good_run : (p : ℕ → Bool) (K : List ℕ → Type 0) (m : Mode) (bytes : List ℕ) → ((b : ℕ) → p b ≡ true → next m b ≡ Some m) → ((r : List ℕ) → K r → Good m r) → Run p K bytes → Good m bytes
 good_run p K m bytes on k r = subst (λ l. Good m l) (sym r.split) (through p m r.run r.rest on r.passes (k r.rest r.then_rest))
@@ -237,7 +233,7 @@ blank_good m bytes over on r = subst (λ l. Good m l) (sym r.split) (by r.run r.
     by : (run : List ℕ) → list_all is_ascii_whitespace run ≡ true → Good m (run ++ r.rest)
     by [] y = subst (λ l. Good m l) (sym r.then_rest) over
     by (b ∷ run) y =
-        let h = both (is_ascii_whitespace b) (list_all is_ascii_whitespace run) y in
+        let h = and_parts (is_ascii_whitespace b) (list_all is_ascii_whitespace run) y in
         goes m mode.Tail b (run ++ r.rest) (on b h.0) (through is_ascii_whitespace mode.Tail run r.rest (λ c z. takes (is_ascii_whitespace c) _ _ z) h.1 tail)
 
 digits_good : (m k : Mode) (K : List ℕ → Type 0) (bytes : List ℕ) → ((b : ℕ) → is_ascii_digit b ≡ true → next m b ≡ Some k) → ((b : ℕ) → is_ascii_digit b ≡ true → next k b ≡ Some k) → ((r : List ℕ) → K r → Good k r) → Digits K bytes → Good m bytes

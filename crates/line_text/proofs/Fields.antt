@@ -5,7 +5,7 @@ use Rattle.std.specs.List.{list_all}
 use Rattle.std.specs.Char.{is_ascii_digit}
 use Rattle.std.specs.Int.{w64, saturate_signed}
 use Rattle.std.specs.Str.{is_utf8, IsAscii}
-use Rattle.std.proofs.lemmas.Bool.{eqb-true, ne_eqb}
+use Rattle.std.proofs.lemmas.Bool.{eqb-true, ne_eqb, and_parts}
 use Rattle.std.proofs.lemmas.Bool.Decides.{leb_tells, nat_tests}
 use Rattle.std.proofs.lemmas.Fmt.{IsAscii-from_digits}
 use Rattle.std.proofs.lemmas.List.{take_at, drop_at}
@@ -13,18 +13,13 @@ use Rattle.std.proofs.lemmas.Str.{IsUtf8-from_ascii, is_utf8-from_IsUtf8}
 use Rattle.std.proofs.lemmas.Str.Ascii.{IsAscii-cons}
 use Rattle.line_text.specs.Lines.{HasNoFeed}
 use Rattle.line_text.specs.Numerals.{numeral, signed_numeral, integer, number_at}
-use Rattle.line_text.specs.Words.{◌>>=◌, word_len, is_field, field_at, number_field}
+use Rattle.line_text.specs.Words.{◌>>=◌, word_len, is_field, bytes_at, as_text, field_at, number_field}
 use Rattle.line_text.proofs.Decimals.{own, numeral_form}
 use Rattle.line_text.proofs.Numbers.{integer_again, integer_takes, bound, mapped}
 
 -- no byte is a space, or one below it, as a line feed
 abbrev pub IsVisible : List ℕ → Type 0
 IsVisible w = list_all (λ b. nat_le 33 b) w ≡ true
-
-pub and_parts : (a b : Bool) → (a && b) ≡ true → (a ≡ true) × (b ≡ true)
-and_parts true true e = (refl, refl)
-and_parts true false e = absurd cc
-and_parts false b e = absurd cc
 
 above : (n b : ℕ) → nat_le n b ≡ true → n ≤ b
 above n b e = elim (leb_tells n b) [ inl h ↦ h.1 | inr h ↦ absurd (let f = h.0 in cc) ]
@@ -68,7 +63,7 @@ visible_field w visible some text =
     rw (full, visible_no_space w visible, text) refl
 
 pub field_again : (w rest : List ℕ) → is_field w ≡ true → word_len rest ≡ 0 → field_at (32 ∷ (w ++ rest)) ≡ Some (w, rest)
-unfolding field_at
+unfolding bytes_at field_at
 field_again w rest e h =
     let p = and_parts (not (length w == 0) && list_all (λ b. not (b == 32)) w) (is_utf8 w) e in
     let q = and_parts (not (length w == 0)) (list_all (λ b. not (b == 32)) w) p.0 in
@@ -80,22 +75,39 @@ passed : {A : Type 0} (b : Bool) (o : Option A) (y : A) → cond b None o ≡ So
 passed true o y e = absurd cc
 passed false o y e = (refl, e)
 
-pub field_takes : (bytes w rest : List ℕ) → field_at bytes ≡ Some (w, rest) → bytes ≡ 32 ∷ (w ++ rest)
-unfolding field_at
-field_takes [] w rest e = absurd cc
-field_takes (c ∷ bs) w rest e =
+is_space : (c : ℕ) → not (c == 32) ≡ false → c ≡ 32
+is_space c e = by (c == 32) refl e
+  where
+    by : (b : Bool) → (c == 32) ≡ b → not b ≡ false → c ≡ 32
+    by true t h = eqb-true c 32 t
+    by false t h = absurd cc
+
+pub bytes_take : (bytes w rest : List ℕ) → bytes_at bytes ≡ Some (w, rest) → bytes ≡ 32 ∷ (w ++ rest)
+unfolding bytes_at
+bytes_take [] w rest e = absurd cc
+bytes_take (c ∷ bs) w rest e =
     let n = word_len bs in
     let p = passed (not (c == 32)) _ (w, rest) e in
-    let q = passed (n == 0) _ (w, rest) p.1 in
-    let r = passed (not (is_utf8 (take n bs))) (Some (take n bs, drop n bs)) (w, rest) q.1 in
-    let same : (take n bs, drop n bs) ≡ (w, rest) = let h = r.1 in cc in
-    let space : c ≡ 32 = is_space (c == 32) refl p.0 in
+    let q = passed (n == 0) (Some (take n bs, drop n bs)) (w, rest) p.1 in
+    let same : (take n bs, drop n bs) ≡ (w, rest) = let h = q.1 in cc in
     let whole : bs ≡ w ++ rest = sym (take-append-drop n bs) ∙ ap (λ (x : List ℕ × List ℕ). x.0 ++ x.1) same in
-    ap (λ (b : ℕ). b ∷ bs) space ∙ ap (λ (x : List ℕ). 32 ∷ x) whole
+    ap (λ (b : ℕ). b ∷ bs) (is_space c p.0) ∙ ap (λ (x : List ℕ). 32 ∷ x) whole
+
+-- the bytes that were taken as text
+text_is : (bytes w rest : List ℕ) → field_at bytes ≡ Some (w, rest) → (bytes_at bytes ≡ Some (w, rest)) × (is_utf8 w ≡ true)
+unfolding field_at
+text_is bytes w rest e =
+    let f = bound as_text (bytes_at bytes) (w, rest) e in
+    let t = passed (not (is_utf8 f.0.0)) (Some f.0) (w, rest) f.2 in
+    let same : f.0 ≡ (w, rest) = let h = t.1 in cc in
+    (f.1 ∙ ap (λ x. Some x) same, ap (λ (x : List ℕ × List ℕ). is_utf8 x.0) (sym same) ∙ is_not (is_utf8 f.0.0) t.0)
   where
-    is_space : (b : Bool) → (c == 32) ≡ b → not b ≡ false → c ≡ 32
-    is_space true t h = eqb-true c 32 t
-    is_space false t h = absurd cc
+    is_not : (b : Bool) → not b ≡ false → b ≡ true
+    is_not true e = refl
+    is_not false e = absurd cc
+
+pub field_takes : (bytes w rest : List ℕ) → field_at bytes ≡ Some (w, rest) → bytes ≡ 32 ∷ (w ++ rest)
+field_takes bytes w rest e = bytes_take bytes w rest (text_is bytes w rest e).0
 
 -- the bytes before the first space have none
 front_no_space : (bs : List ℕ) → HasNoSpace (take (word_len bs) bs)
@@ -114,21 +126,23 @@ front_some (b ∷ bs) e = by (b == 32) refl e
     by true h k = k
     by false h k = let next : 1 + word_len bs ≡ suc (word_len bs) = omega arith in rw next (ne_eqb (length (b ∷ take (word_len bs) bs)) 0 (λ e. omega (arith, e)))
 
-pub field_form : (bytes w rest : List ℕ) → field_at bytes ≡ Some (w, rest) → is_field w ≡ true
-unfolding field_at
-field_form [] w rest e = absurd cc
-field_form (c ∷ bs) w rest e =
+bytes_form : (bytes w rest : List ℕ) → bytes_at bytes ≡ Some (w, rest) → (not (length w == 0) && list_all (λ b. not (b == 32)) w) ≡ true
+unfolding bytes_at
+bytes_form [] w rest e = absurd cc
+bytes_form (c ∷ bs) w rest e =
     let n = word_len bs in
     let p = passed (not (c == 32)) _ (w, rest) e in
-    let q = passed (n == 0) _ (w, rest) p.1 in
-    let r = passed (not (is_utf8 (take n bs))) (Some (take n bs, drop n bs)) (w, rest) q.1 in
-    let same : (take n bs, drop n bs) ≡ (w, rest) = let h = r.1 in cc in
-    let form : is_field (take n bs) ≡ true = rw (front_some bs q.0, front_no_space bs) (is_not (is_utf8 (take n bs)) r.0) in
-    ap (λ (x : List ℕ × List ℕ). is_field x.0) (sym same) ∙ form
-  where
-    is_not : (b : Bool) → not b ≡ false → b ≡ true
-    is_not true e = refl
-    is_not false e = absurd cc
+    let q = passed (n == 0) (Some (take n bs, drop n bs)) (w, rest) p.1 in
+    let same : (take n bs, drop n bs) ≡ (w, rest) = let h = q.1 in cc in
+    let form : (not (length (take n bs) == 0) && list_all (λ b. not (b == 32)) (take n bs)) ≡ true = rw (front_some bs q.0) (front_no_space bs) in
+    ap (λ (x : List ℕ × List ℕ). not (length x.0 == 0) && list_all (λ b. not (b == 32)) x.0) (sym same) ∙ form
+
+pub field_form : (bytes w rest : List ℕ) → field_at bytes ≡ Some (w, rest) → is_field w ≡ true
+field_form bytes w rest e =
+    let t = text_is bytes w rest e in
+    let text = t.1 in
+    let form = bytes_form bytes w rest t.0 in
+    rw (form, text) refl
 
 -- ---- numbers
 

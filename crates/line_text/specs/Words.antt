@@ -20,14 +20,17 @@ joined word fields = word ++ flat_map (λ field. 32 ∷ field) fields
 abbrev pub is_field : List ℕ → Bool
 is_field w = not (length w == 0) && list_all (λ b. not (b == 32)) w && is_utf8 w
 
--- a space, and the text after it, which isn't empty, up to the next space; and what comes after it
+-- a space, and the bytes after it, at least one, up to the next space; and what comes after them
+unfoldable pub bytes_at : List ℕ → Option (List ℕ × List ℕ)
+bytes_at [] = None
+bytes_at (c ∷ rest) = if not (c == 32) then None else if word_len rest == 0 then None else Some (take (word_len rest) rest, drop (word_len rest) rest)
+
+-- the same, where the field is a text
+abbrev pub as_text : List ℕ × List ℕ → Option (List ℕ × List ℕ)
+as_text f = if not (is_utf8 f.0) then None else Some f
+
 unfoldable pub field_at : List ℕ → Option (List ℕ × List ℕ)
-field_at [] = None
-field_at (c ∷ rest) =
-    if not (c == 32) then None
-    else if word_len rest == 0 then None
-    else if not (is_utf8 (take (word_len rest) rest)) then None
-    else Some (take (word_len rest) rest, drop (word_len rest) rest)
+field_at bytes = bytes_at bytes >>= as_text
 
 -- a field that is a number, and what comes after it
 unfoldable pub number_field : List ℕ → Option (ℤ × List ℕ)

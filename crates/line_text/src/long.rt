@@ -3,7 +3,7 @@ ghost use Rattle.std.specs.Prelude.{◌≡◌, ◌++◌, ◌-◌, ◌^◌, ◌&&
 ghost use Rattle.line_text.specs.Numerals.{numeral, signed_numeral, number_at};
 ghost use Rattle.line_text.specs.Long.{fits_position, fits_long, fitting, position_at, long_at};
 
-use crate::numerals::{number_at, size_at};
+use crate::numerals::{number_at, size_in};
 use gas_model::{Bytes, NoMemory};
 use itoa::Buffer;
 
@@ -16,7 +16,14 @@ pub fn position_at(word: &str) -> Option<Option<u32>>
     // What is read was spelled so.
     ensures read { IfSome result (λ o. (n : ℕ) × (word.now ≡ numeral n) × (o ≡ fitting fits_position n)) }
 {
-    let size = size_at(word)?;
+    position_in(word.as_bytes())
+}
+
+/// The position that bytes are as a word of digits.
+pub fn position_in(digits: &[u8]) -> Option<Option<u32>>
+    ensures { result ≡ position_at digits.now }
+{
+    let size = size_in(digits)?;
     Some(u32::try_from(size).ok())
 }
 

@@ -58,6 +58,17 @@ fn below_zero(size: Option<u64>) -> Option<i64>
     }
 }
 
+/// The number that bytes are as a word of digits.
+pub fn size_in(digits: &[u8]) -> Option<u64>
+    ensures { result ≡ size_at digits.now }
+{
+    if begins_well(digits) {
+        size_of(digits)
+    } else {
+        None
+    }
+}
+
 /// The number that a word of digits is: `0`, or digits with no zero in front. A word of another form is none.
 /// A number past 64 bits counts as the greatest of 64 bits.
 pub fn size_at(word: &str) -> Option<u64>
@@ -67,12 +78,7 @@ pub fn size_at(word: &str) -> Option<u64>
     // What is read was spelled so.
     ensures read { IfSome result (λ k. (n : ℕ) × (word.now ≡ numeral n) × (k ≡ min n (2 ^ 64 - 1))) }
 {
-    let digits = word.as_bytes();
-    if begins_well(digits) {
-        size_of(digits)
-    } else {
-        None
-    }
+    size_in(word.as_bytes())
 }
 
 fn after_minus(word: &str) -> Option<&str>

@@ -3,7 +3,7 @@ ghost use Rattle.std.specs.Prelude.{◌≡◌, ◌==◌, ◌≤◌, length, take
 ghost use Rattle.std.specs.List.{position_or_len};
 ghost use Rattle.std.specs.Option.{option_map};
 ghost use Rattle.std.specs.Str.{is_utf8};
-ghost use Rattle.line_text.specs.Words.{word_len, field_at, number_field};
+ghost use Rattle.line_text.specs.Words.{word_len, bytes_at, field_at, number_field};
 
 use crate::numerals::number_at;
 
@@ -40,11 +40,11 @@ pub fn cut_word(bytes: &[u8]) -> (&[u8], &[u8])
     bytes.split_at(run_len(bytes, b' '))
 }
 
-/// A field, which comes after one space and goes to the next one, and what comes after it. None where the bytes begin
-/// with no space, or the field is empty or isn't UTF-8.
-#[tactic(auto, unfolding(crate::specs::Words::field_at))]
-pub fn field_at(bytes: &[u8]) -> Option<(&str, &[u8])>
-    ensures { option_map (λ x. (x.0.now, x.1.now)) result ≡ field_at bytes.now }
+/// A field of any bytes, which comes after one space and goes to the next one, and what comes after it. None where the
+/// bytes begin with no space, or the field is empty.
+#[tactic(auto, unfolding(crate::specs::Words::bytes_at))]
+pub fn bytes_at(bytes: &[u8]) -> Option<(&[u8], &[u8])>
+    ensures { option_map (λ x. (x.0.now, x.1.now)) result ≡ bytes_at bytes.now }
 {
     let [b' ', rest @ ..] = bytes else {
         return None;
@@ -53,6 +53,15 @@ pub fn field_at(bytes: &[u8]) -> Option<(&str, &[u8])>
     if field.is_empty() {
         return None;
     }
+    Some((field, rest))
+}
+
+/// A field of text, likewise. None also where it isn't UTF-8.
+#[tactic(auto, unfolding(crate::specs::Words::field_at))]
+pub fn field_at(bytes: &[u8]) -> Option<(&str, &[u8])>
+    ensures { option_map (λ x. (x.0.now, x.1.now)) result ≡ field_at bytes.now }
+{
+    let (field, rest) = bytes_at(bytes)?;
     let text = text_of(field)?;
     Some((text, rest))
 }

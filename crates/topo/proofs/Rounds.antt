@@ -2,7 +2,7 @@
 use Rattle.std.proofs.Common.{◌≡◌, ◌≢◌, ℕ, zero, suc, ◌<◌, ◌≤◌, ◌==◌, ◌&&◌, inl, inr, refl, sym, ap, ◌∙◌, arith, Bool, true, false, not, IsTrue, subst, List, [], ◌∷◌, ◌++◌, length, map, cond}
 use Rattle.std.specs.Prelude.{Option, Some}
 use Rattle.std.specs.List.{filter}
-use Rattle.std.proofs.lemmas.Bool.{cases_eq}
+use Rattle.std.proofs.lemmas.Bool.{cases_eq, and_parts}
 use Rattle.std.proofs.lemmas.Bool.Decides.{nat_tests}
 use Rattle.std.proofs.lemmas.List.{get_or_push, get_or_append_left, length_push, append_assoc, append-nil, map-append}
 use Rattle.std.proofs.lemmas.List.Elements.{filter-append}
@@ -18,12 +18,6 @@ node_append g root w xs (suc j) h = ap (λ (s : Step). far g s.0 s.1) (get_or_ap
 by_append : (w xs : List Step) (k : ℕ) → k ≤ length w → by (w ++ xs) k ≡ by w k
 by_append w xs zero h = refl
 by_append w xs (suc j) h = ap (λ (s : Step). Some s.0) (get_or_append_left w xs (0, 0) j h)
-
-first_true : (a b : Bool) → (a && b) ≡ true → a ≡ true
-first_true a b e = grind (arith, nat_tests)
-
-last_true : (a b : Bool) → (a && b) ≡ true → b ≡ true
-last_true a b e = grind (arith, nat_tests)
 
 pigeons_apart : (n fm fj fk : ℕ) → fj ≢ fm → fk ≢ fm → fj ≢ fk → cond (fj == n) fm fj ≢ cond (fk == n) fm fk
 pigeons_apart n fm fj fk d1 d2 d3 e = grind (arith, nat_tests)
@@ -85,7 +79,7 @@ module _ (g : Graph) (keep tree : ℕ → Bool) (spans : Spans g keep tree) (roo
       let before : Round g tree root n (w ++ found n pass (is_at g n) k) p k by_p = rounds w k (omega arith) r in
       let same : (w ++ found n pass (is_at g n) k) ++ cond (is_at g n k && pass k) ((k, n) ∷ []) [] ≡ w ++ found n pass (is_at g n) (suc k) = append_assoc w _ _ ∙ ap (λ (xs : List Step). w ++ xs) (sym (found_more n pass (is_at g n) k)) in
       let cases : (b : Bool) → (is_at g n k && pass k) ≡ b → Round g tree root n ((w ++ found n pass (is_at g n) k) ++ cond b ((k, n) ∷ []) []) p (suc k) by_p = λ b. elim b as (λ b. (is_at g n k && pass k) ≡ b → Round g tree root n ((w ++ found n pass (is_at g n) k) ++ cond b ((k, n) ∷ []) []) p (suc k) by_p) [
-        | true ↦ λ e. round_push _ k h (first_true _ _ e) (first_true _ _ (last_true (is_at g n k) _ e)) (last_true (tree k) _ (last_true (is_at g n k) _ e)) before
+        | true ↦ λ e. let here = and_parts (is_at g n k) _ e in let on = and_parts (tree k) _ here.1 in round_push _ k h here.0 on.0 on.1 before
         | false ↦ λ e. subst (λ (ys : List Step). Round g tree root n ys p (suc k) by_p) (sym (append-nil _)) (round_skip _ k before)
       ] in
       subst (λ (ys : List Step). Round g tree root n ys p (suc k) by_p) same (cases _ refl)

@@ -12,6 +12,7 @@ mod walking;
 
 pub use laws::one_shape;
 pub use shape::Shape;
+pub use walking::far;
 
 #[cfg(test)]
 mod tests;

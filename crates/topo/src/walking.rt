@@ -19,8 +19,8 @@ fn is_onward(role: Role, arc: u32, by: Option<u32>) -> bool
     }
 }
 
-// The end of an arc that isn't `near`.
-fn far(arcs: &[ArcRow], arc: u32, near: u32) -> u32
+/// The end of an arc that isn't the node `near`.
+pub fn far(arcs: &[ArcRow], arc: u32, near: u32) -> u32
     requires { arc < length arcs.now }
     ensures { result ≡ far (graph_of arcs.now) arc near }
 {

@@ -3,20 +3,16 @@ use Rattle.std.proofs.Common.{◌≡◌, ◌≢◌, ◌<◌, ◌+◌, inl, inr, 
 use Rattle.std.specs.Prelude.{◌==◌, option_map, option_and_then}
 use Rattle.std.specs.List.{list_all, slice_split}
 use Rattle.std.specs.Str.Parse.{digits_value}
-use Rattle.std.specs.Str.{is_utf8, IsUtf8}
 use Rattle.std.proofs.lemmas.Bool.{eqb-true, eqb-false, cases_lt}
 use Rattle.std.proofs.lemmas.List.{append-nil, take_all, drop_all, length-append}
 use Rattle.std.proofs.lemmas.List.Sums.{passes_at_first, fails_before_first}
 use Rattle.std.proofs.lemmas.List.Splits.{slice_split_none, slice_split_first}
-use Rattle.std.proofs.lemmas.Fmt.{IsAscii-from_digits}
-use Rattle.std.proofs.lemmas.Str.{IsUtf8-from_ascii, is_utf8-from_IsUtf8}
 use Rattle.std.proofs.Math.Seq.{drop-cons}
-use Rattle.tree_cert.proofs.Below.{digits_of}
 use Rattle.line_text.specs.Numerals.{is_numeral, natural}
-use Rattle.line_text.specs.Words.{◌>>=◌, word_len, field_at}
+use Rattle.line_text.specs.Words.{◌>>=◌, word_len, bytes_at}
 use Rattle.line_text.specs.Long.{fits_position, fitting, position_at}
 use Rattle.line_text.proofs.Numbers.{sized, mapped, bound}
-use Rattle.line_text.proofs.Fields.{field_takes}
+use Rattle.line_text.proofs.Fields.{bytes_take}
 use Rattle.tree_cert.specs.declared.fault.LineFault.{LineFault}
 use Rattle.tree_cert.specs.declared.fault.LineFault.TheVariants as fault
 use Rattle.tree_cert.specs.Spelling.{ascends_after}
@@ -115,58 +111,44 @@ not_false true e = refl
 not_false false e = absurd cc
 
 -- a field is the first of the words
-field_words : (bytes w rest : List ℕ) → field_at bytes ≡ Some (w, rest) → (ws : List (List ℕ)) × (spaced_words rest ≡ Some ws) × (spaced_words bytes ≡ Some (w ∷ ws))
-unfolding field_at
+field_words : (bytes w rest : List ℕ) → bytes_at bytes ≡ Some (w, rest) → (ws : List (List ℕ)) × (spaced_words rest ≡ Some ws) × (spaced_words bytes ≡ Some (w ∷ ws))
+unfolding bytes_at
 field_words [] w rest e = absurd cc
 field_words (c ∷ bs) w rest e =
     let n = word_len bs in
     let p = passed (not (c == 32)) _ (w, rest) e in
-    let q = passed (n == 0) _ (w, rest) p.1 in
-    let r = passed (not (is_utf8 (take n bs))) (Some (take n bs, drop n bs)) (w, rest) q.1 in
-    let same : (take n bs, drop n bs) ≡ (w, rest) = let h = r.1 in cc in
+    let q = passed (n == 0) (Some (take n bs, drop n bs)) (w, rest) p.1 in
+    let same : (take n bs, drop n bs) ≡ (w, rest) = let h = q.1 in cc in
     let word : take n bs ≡ w = ap (λ (x : List ℕ × List ℕ). x.0) same in
     let after : drop n bs ≡ rest = ap (λ (x : List ℕ × List ℕ). x.1) same in
     let s = split_words bs in
     let space : (c == 32) ≡ true = not_false (c == 32) p.0 in
     (s.0, ap spaced_words (sym after) ∙ s.2, rw space (ap Some (s.1 ∙ ap (λ (x : List ℕ). x ∷ s.0) word)))
 
--- digits are text
-pub numeral_text : (w : List ℕ) → is_numeral w ≡ true → IsUtf8 w
-numeral_text w h = IsUtf8-from_ascii w (IsAscii-from_digits w (digits_of w h))
-
-no_text : (w : List ℕ) → is_utf8 w ≡ false → natural w ≡ None
-no_text w e = by (is_numeral w) refl
-  where
-    by : (b : Bool) → is_numeral w ≡ b → cond b (Some (digits_value 10 w)) None ≡ None
-    by true h = absurd (let t = is_utf8-from_IsUtf8 w (numeral_text w h) in cc)
-    by false h = refl
-
 no_number : (w : List ℕ) (ws : List (List ℕ)) → natural w ≡ None → naturals (w ∷ ws) ≡ None
 no_number w ws e = rw e refl
 
 -- where there is no field, there is no word, or the first one is no number
-no_field : (bytes : List ℕ) → field_at bytes ≡ None → bytes ≢ [] → option_and_then naturals (spaced_words bytes) ≡ None
-unfolding field_at
+no_field : (bytes : List ℕ) → bytes_at bytes ≡ None → bytes ≢ [] → option_and_then naturals (spaced_words bytes) ≡ None
+unfolding bytes_at
 no_field [] e some = absurd (some refl)
-no_field (c ∷ bs) e some = by (c == 32) (word_len bs == 0) (is_utf8 (take (word_len bs) bs)) refl refl refl e
+no_field (c ∷ bs) e some = by (c == 32) (word_len bs == 0) refl refl e
   where
-    split : (w : List ℕ) → natural (take (word_len bs) bs) ≡ None → naturals (slice_split is_space bs) ≡ None
-    split w h = let s = split_words bs in rw s.1 (no_number (take (word_len bs) bs) s.0 h)
-
-    by : (a b t : Bool) → (c == 32) ≡ a → (word_len bs == 0) ≡ b → is_utf8 (take (word_len bs) bs) ≡ t
-        → cond {A = Option (List ℕ × List ℕ)} (not a) None (cond b None (cond (not t) None (Some (take (word_len bs) bs, drop (word_len bs) bs)))) ≡ None → option_and_then naturals (spaced_words (c ∷ bs)) ≡ None
-    by false b t p q r k = rw p refl
-    by true true t p q r k =
+    by : (a b : Bool) → (c == 32) ≡ a → (word_len bs == 0) ≡ b → cond {A = Option (List ℕ × List ℕ)} (not a) None (cond b None (Some (take (word_len bs) bs, drop (word_len bs) bs))) ≡ None
+        → option_and_then naturals (spaced_words (c ∷ bs)) ≡ None
+    by false b p q k = rw p refl
+    by true true p q k =
         let none : word_len bs ≡ 0 = eqb-true _ _ q in
-        rw p (split [] (ap (λ (n : ℕ). natural (take n bs)) none))
-    by true false false p q r k = rw p (split [] (no_text (take (word_len bs) bs) r))
-    by true false true p q r k = absurd cc
+        let s = split_words bs in
+        let empty : natural (take (word_len bs) bs) ≡ None = ap (λ (n : ℕ). natural (take n bs)) none in
+        rw (p, s.1) (no_number (take (word_len bs) bs) s.0 empty)
+    by true false p q k = absurd cc
 
 -- ---- nodes
 
 -- a node that was read, by its digits
 pub record IsNode (bytes word : List ℕ) (node : Option ℕ) (rest : List ℕ) : Type 0 where
-  pub field : field_at bytes ≡ Some (word, rest)
+  pub field : bytes_at bytes ≡ Some (word, rest)
   pub number : ℕ
   pub value : natural word ≡ Some number
   pub fits : node ≡ fitting fits_position number
@@ -180,7 +162,7 @@ same_field x y w rest e f = rw (e, f) refl
 pub node_is : (bytes w : List ℕ) (o : Option ℕ) (rest : List ℕ) → node_field bytes ≡ Some (w, o, rest) → IsNode bytes w o rest
 unfolding node_field
 node_is bytes w o rest e =
-    let f = bound (λ x. position_at x.0 >>= λ n. Some (x.0, n, x.1)) (field_at bytes) (w, o, rest) e in
+    let f = bound (λ x. position_at x.0 >>= λ n. Some (x.0, n, x.1)) (bytes_at bytes) (w, o, rest) e in
     let n = bound (λ n. Some (f.0.0, n, f.0.1)) (position_at f.0.0) (w, o, rest) f.2 in
     let same : (f.0.0, n.0, f.0.1) ≡ (w, o, rest) = let h = n.2 in cc in
     let m = mapped (fitting fits_position) (natural f.0.0) n.0 n.1 in
@@ -199,27 +181,27 @@ node_digits w n e = sized (is_numeral w) (digits_value 10 w) n e
 
 -- what the field is, where it is no number
 abbrev NoNumber : List ℕ → Option (List ℕ × List ℕ) → Type 0
-NoNumber bytes None = field_at bytes ≡ None
-NoNumber bytes (Some x) = (field_at bytes ≡ Some x) × (natural x.0 ≡ None)
+NoNumber bytes None = bytes_at bytes ≡ None
+NoNumber bytes (Some x) = (bytes_at bytes ≡ Some x) × (natural x.0 ≡ None)
 
 abbrev noded : List ℕ × List ℕ → Option ℕ → Option (List ℕ × Option ℕ × List ℕ)
 noded x n = Some (x.0, n, x.1)
 
-no_node : (bytes : List ℕ) → node_field bytes ≡ None → NoNumber bytes (field_at bytes)
+no_node : (bytes : List ℕ) → node_field bytes ≡ None → NoNumber bytes (bytes_at bytes)
 unfolding node_field
-no_node bytes e = by (field_at bytes) refl e
+no_node bytes e = by (bytes_at bytes) refl e
   where
     none : (w rest : List ℕ) (o : Option ℕ) → (option_map (fitting fits_position) o >>= noded (w, rest)) ≡ None → o ≡ None
     none w rest None h = refl
     none w rest (Some n) h = absurd cc
 
-    by : (o : Option (List ℕ × List ℕ)) → field_at bytes ≡ o → (o >>= λ x. position_at x.0 >>= noded x) ≡ None → NoNumber bytes o
+    by : (o : Option (List ℕ × List ℕ)) → bytes_at bytes ≡ o → (o >>= λ x. position_at x.0 >>= noded x) ≡ None → NoNumber bytes o
     by None h k = h
     by (Some x) h k = (h, none x.0 x.1 (natural x.0) k)
 
 -- where no node is read, no list of words is one of numbers
 no_numbers : (bytes : List ℕ) → node_field bytes ≡ None → bytes ≢ [] → option_and_then naturals (spaced_words bytes) ≡ None
-no_numbers bytes e some = by (field_at bytes) (no_node bytes e)
+no_numbers bytes e some = by (bytes_at bytes) (no_node bytes e)
   where
     by : (o : Option (List ℕ × List ℕ)) → NoNumber bytes o → option_and_then naturals (spaced_words bytes) ≡ None
     by None h = no_field bytes h some
@@ -268,7 +250,7 @@ next_is rest w o after last nodes h =
     rw (s.2, s.1, number, value, h.fits) refl
 
 pub rest_shorter : (bytes w : List ℕ) (o : Option ℕ) (rest : List ℕ) → IsNode bytes w o rest → length rest < length bytes
-rest_shorter bytes w o rest h = let e = field_takes bytes w rest h.field in omega (arith, ap length e, length-append w rest)
+rest_shorter bytes w o rest h = let e = bytes_take bytes w rest h.field in omega (arith, ap length e, length-append w rest)
 
 pub some_bytes : (bytes : List ℕ) → (length bytes == 0) ≡ false → bytes ≢ []
 some_bytes bytes e is = let none : length bytes ≡ 0 = ap length is in absurd (eqb-false _ _ e none)

@@ -8,11 +8,11 @@ ghost use Rattle.tree_cert.specs.Nodes.{with_node, node_field};
 
 use crate::fault::LineFault;
 use gas_model::{List, NoMemory};
-use line_text::{field_at, position_at};
+use line_text::{bytes_at, position_in};
 use std::alloc::Global;
 
 /// Whether a number is below another one, by their digits, however many there are.
-fn is_below(number: &str, other: &str) -> bool
+fn is_below(number: &[u8], other: &[u8]) -> bool
     requires number { is_numeral number.now ≡ true }
     requires other { is_numeral other.now ≡ true }
     ensures { result ≡ nat_lt (digits_value 10 number.now) (digits_value 10 other.now) }
@@ -35,11 +35,11 @@ fn with_node(nodes: Option<List<u32>>, node: Option<u32>) -> Result<Option<List<
 
 /// The digits of a node, the node, and what comes after it.
 #[tactic(auto, unfolding(crate::specs::Nodes::node_field))]
-fn node_field(bytes: &[u8]) -> Option<(&str, Option<u32>, &[u8])>
+fn node_field(bytes: &[u8]) -> Option<(&[u8], Option<u32>, &[u8])>
     ensures { option_map (λ x. (x.0.now, x.1, x.2.now)) result ≡ node_field bytes.now }
 {
-    let (word, rest) = field_at(bytes)?;
-    let node = position_at(word)?;
+    let (word, rest) = bytes_at(bytes)?;
+    let node = position_in(word)?;
     Some((word, node, rest))
 }
 

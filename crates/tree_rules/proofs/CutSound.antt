@@ -3,13 +3,14 @@ use Rattle.std.proofs.Common.{◌≡◌, ℕ, zero, suc, ◌+◌, ◌<◌, ◌�
 use Rattle.std.specs.List.{list_all}
 use Rattle.std.specs.Option.{option_map_or}
 use Rattle.std.proofs.lemmas.Bool.Decides.{nat_tests}
+use Rattle.std.proofs.lemmas.Bool.{and_parts}
 use Rattle.integer_laws.proofs.Ring.{linear, mul_add, mul_zero, mul_lt_left}
 use Rattle.gas_model.specs.declared.rows.ArcRow.{ArcRow}
 use Rattle.gas_model.specs.declared.rows.NodeRow.{NodeRow}
 use Rattle.gas_model.specs.Points.{sum_arcs, leaving, entering, sum_out, sum_in, net_flow, balances}
 use Rattle.tree_cert.specs.Spelling.{ascends_after}
 use Rattle.tree_rules.specs.NodeRules.{are_cut_nodes, is_cut_node, crosses, all_arcs, sum_nodes, least_supply, greatest_supply, is_unbalanced}
-use Rattle.tree_rules.proofs.UnitSound.{both, either}
+use Rattle.tree_rules.proofs.UnitSound.{either}
 use Rattle.tree_rules.proofs.NodeSound.{balance_says}
 
 -- ---- tests of lists
@@ -18,9 +19,9 @@ pub each_arc : (test : ℕ → ArcRow → Bool) (i : ℕ) (rows : List ArcRow) �
 each_arc test i [] h j row e = absurd cc
 each_arc test i (first ∷ rows) h zero row e =
     let same : first ≡ row = cc in
-    rw (← same, add-zero i) (both (test i first) (all_arcs test (i + 1) rows) h).0
+    rw (← same, add-zero i) (and_parts (test i first) (all_arcs test (i + 1) rows) h).0
 each_arc test i (first ∷ rows) h (suc j) row e =
-    subst (λ (n : ℕ). IsTrue (test n row)) (let s : i + 1 + j ≡ i + suc j = omega arith in s) (each_arc test (i + 1) rows (both (test i first) (all_arcs test (i + 1) rows) h).1 j row e)
+    subst (λ (n : ℕ). IsTrue (test n row)) (let s : i + 1 + j ≡ i + suc j = omega arith in s) (each_arc test (i + 1) rows (and_parts (test i first) (all_arcs test (i + 1) rows) h).1 j row e)
 
 pub get_some : {X : Type 0} (xs : List X) (i : ℕ) → i < length xs → (x : X) × (slice_get xs i ≡ Some x)
 get_some [] i h = absurd (omega arith)
@@ -64,13 +65,13 @@ sum_nodes_apart f g (n ∷ ns) = omega (arith, linear, sum_nodes_apart f g ns)
 sum_nodes_below : (k : ℤ) (f g : ℕ → ℤ) (test : ℕ → Bool) (ns : List ℕ) → ((n : ℕ) → IsTrue (test n) → (k *ℤ f n) ≤ℤ g n) → IsTrue (list_all test ns) → (k *ℤ sum_nodes f ns) ≤ℤ sum_nodes g ns
 sum_nodes_below k f g test [] h t = omega (arith, linear, mul_zero k)
 sum_nodes_below k f g test (n ∷ ns) h t =
-    let b = both (test n) (list_all test ns) t in
+    let b = and_parts (test n) (list_all test ns) t in
     omega (arith, linear, mul_add k (f n) (sum_nodes f ns), h n b.0, sum_nodes_below k f g test ns h b.1)
 
 sum_nodes_above : (k : ℤ) (f g : ℕ → ℤ) (test : ℕ → Bool) (ns : List ℕ) → ((n : ℕ) → IsTrue (test n) → g n ≤ℤ (k *ℤ f n)) → IsTrue (list_all test ns) → sum_nodes g ns ≤ℤ (k *ℤ sum_nodes f ns)
 sum_nodes_above k f g test [] h t = omega (arith, linear, mul_zero k)
 sum_nodes_above k f g test (n ∷ ns) h t =
-    let b = both (test n) (list_all test ns) t in
+    let b = and_parts (test n) (list_all test ns) t in
     omega (arith, linear, mul_add k (f n) (sum_nodes f ns), h n b.0, sum_nodes_above k f g test ns h b.1)
 
 -- ---- an arc counts once at most
@@ -78,7 +79,7 @@ sum_nodes_above k f g test (n ∷ ns) h t =
 before_all : (n k : ℕ) (ns : List ℕ) → k ≤ n → IsTrue (ascends_after n ns) → is_cut_node ns k ≡ false
 before_all n k [] l h = refl
 before_all n k (m ∷ ns) l h =
-    let b = both (nat_lt n m) (ascends_after m ns) h in
+    let b = and_parts (nat_lt n m) (ascends_after m ns) h in
     let less : n < m = grind (arith, nat_tests, b.0) in
     let here : (m == k) ≡ false = grind (arith, nat_tests) in
     ap (λ (t : Bool). t || is_cut_node ns k) here ∙ before_all m k ns (omega arith) b.1
@@ -98,13 +99,13 @@ counted_more z k m ns h rest =
 counted : (z : ℤ) (k n : ℕ) (ns : List ℕ) → IsTrue (ascends_after n ns) → sum_nodes (λ i. cond (k == i) z (pos 0)) ns ≡ cond (is_cut_node ns k) z (pos 0)
 counted z k n [] h = refl
 counted z k n (m ∷ ns) h =
-    let b = both (nat_lt n m) (ascends_after m ns) h in
+    let b = and_parts (nat_lt n m) (ascends_after m ns) h in
     counted_more z k m ns b.1 (counted z k m ns b.1)
 
 counted_all : (nodes : List NodeRow) (z : ℤ) (k : ℕ) (ns : List ℕ) → IsTrue (are_cut_nodes nodes ns) → sum_nodes (λ i. cond (k == i) z (pos 0)) ns ≡ cond (is_cut_node ns k) z (pos 0)
 counted_all nodes z k [] h = refl
 counted_all nodes z k (n ∷ ns) h =
-    let b = both (ascends_after n ns) (list_all (λ m. nat_lt m (length nodes)) (n ∷ ns)) h in
+    let b = and_parts (ascends_after n ns) (list_all (λ m. nat_lt m (length nodes)) (n ∷ ns)) h in
     counted_more z k n ns b.0 (counted z k n ns b.0)
 
 -- the arcs that aren't shut have both ends among the nodes, or none
@@ -136,7 +137,7 @@ no_net nodes x ns arcs c off =
 -- ---- the supplies
 within_list : (nodes : List NodeRow) (ns : List ℕ) → IsTrue (are_cut_nodes nodes ns) → IsTrue (list_all (λ m. nat_lt m (length nodes)) ns)
 within_list nodes [] h = refl
-within_list nodes (n ∷ ns) h = (both (ascends_after n ns) (list_all (λ m. nat_lt m (length nodes)) (n ∷ ns)) h).1
+within_list nodes (n ∷ ns) h = (and_parts (ascends_after n ns) (list_all (λ m. nat_lt m (length nodes)) (n ∷ ns)) h).1
 
 supply_says : (nodes : List NodeRow) (d : ℤ) (x : ℕ → ℤ) (arcs : List ArcRow) → ((n : ℕ) (node : NodeRow) → slice_get nodes n ≡ Some node → IsTrue (balances node d x n arcs)) → (n : ℕ) → IsTrue (nat_lt n (length nodes))
     → ((d *ℤ least_supply nodes n) ≤ℤ net_flow x n arcs) × (net_flow x n arcs ≤ℤ (d *ℤ greatest_supply nodes n))

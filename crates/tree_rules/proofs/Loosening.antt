@@ -1,6 +1,7 @@
 -- The condition of a rule that holds for a value holds for each that is no tighter.
 use Rattle.std.proofs.Common.{◌≡◌, ℕ, ap, ◌∙◌, arith, ℤ, pos, negsuc, ◌-ℤ◌, ◌*ℤ◌, ◌≤ℤ◌, ◌<ℤ◌, Bool, true, false, cond, ◌&&◌, not, ◌==◌, int_le, IsTrue, List, slice_get, Option, Some}
 use Rattle.std.specs.Option.{option_map_or}
+use Rattle.std.proofs.lemmas.Bool.{and_parts, and_from}
 use Rattle.integer_laws.proofs.Ring.{linear, mul_le_left, mul_pos, square_nonneg}
 use Rattle.gas_model.specs.declared.rows.ArcRow.{ArcRow}
 use Rattle.gas_model.specs.declared.rows.Drag.{Drag}
@@ -20,8 +21,7 @@ use Rattle.tree_rules.specs.NodeRules.{leaving_step, entering_step}
 use Rattle.tree_rules.specs.Rules.{PartBox, flow_lo, flow_hi, arc_ends, arc_var, fixed_form, form_step, row_step, law_step, flow_step, node_step, balance_step, rule_holds, is_allowed}
 use Rattle.tree_rules.specs.Looser.{IsNoTighter, RulesLoosen, StepsLoosen}
 use Rattle.tree_rules.proofs.CurveLaws.{curve_le, at_least_grow, at_most_grow}
-use Rattle.tree_rules.proofs.UnitSound.{IsForm, IsDrag, both}
-use Rattle.tree_rules.proofs.Scaled.{and_from}
+use Rattle.tree_rules.proofs.UnitSound.{IsForm, IsDrag}
 use Rattle.tree_rules.proofs.StepSound.{row_form, some_is, map_is}
 
 -- ---- the rules of one arc
@@ -104,7 +104,7 @@ ratio_looser num den e OfTo true B C h t = absurd cc
 ratio_looser num den e OfTo false B C h t = omega (arith, linear, mul_le_left (square den) C B (square_nonneg den) h)
 
 and_looser : (a b c d : Bool) → (IsTrue a → IsTrue c) → (IsTrue b → IsTrue d) → IsTrue (a && b) → IsTrue (c && d)
-and_looser a b c d f g t = let s = both a b t in and_from c d (f s.0) (g s.1)
+and_looser a b c d f g t = let s = and_parts a b t in and_from c d (f s.0) (g s.1)
 
 sign_looser : (m K : ℤ) (e : ArcEnds) (x : ArcVar) (low : Bool) (B C : ℤ) → IsNoTighter low B C → IsTrue (sign_step m K e x low C) → IsTrue (sign_step m K e x low B)
 sign_looser m K e OfFlow true B C h t = and_looser (int_le C (pos 0)) (not (at_least K e.v.hi e.u.lo m)) (int_le B (pos 0)) (not (at_least K e.v.hi e.u.lo m)) (λ s. omega (arith, linear)) (λ s. s) t
@@ -210,7 +210,7 @@ rules_loosen p b rule place v low B C w k h t = rule_looser p b rule place v low
 
 pub steps_loosen : StepsLoosen
 steps_loosen p b s B w k a h t =
-    let x = both (is_var p s.var && is_allowed b.bounds s.rule s.var s.low s.value) (rule_holds p b s.rule s.place s.var s.low s.value) t in
-    let y = both (is_var p s.var) (is_allowed b.bounds s.rule s.var s.low s.value) x.0 in
+    let x = and_parts (is_var p s.var && is_allowed b.bounds s.rule s.var s.low s.value) (rule_holds p b s.rule s.place s.var s.low s.value) t in
+    let y = and_parts (is_var p s.var) (is_allowed b.bounds s.rule s.var s.low s.value) x.0 in
     and_from (is_var p s.var && is_allowed b.bounds s.rule s.var s.low B) (rule_holds p b s.rule s.place s.var s.low B)
     (and_from (is_var p s.var) (is_allowed b.bounds s.rule s.var s.low B) y.0 a) (rules_loosen p b s.rule s.place s.var s.low B s.value w k h x.1)

@@ -1,12 +1,13 @@
 -- A step by the balance of a node keeps every point, over any denominator, and a closing has none.
 use Rattle.std.proofs.Common.{◌≡◌, ℕ, suc, ◌+◌, inl, inr, refl, sym, ap, ◌∙◌, subst, arith, ℤ, pos, ◌+ℤ◌, ◌-ℤ◌, ◌*ℤ◌, ◌≤ℤ◌, ◌<ℤ◌, Bool, true, false, cond, ◌==◌, int_le, int_lt, IsTrue, List, [], ◌∷◌, slice_get, Some, add-zero, zero-add}
+use Rattle.std.proofs.lemmas.Bool.{and_parts}
 use Rattle.integer_laws.proofs.Ring.{linear, mul_add, mul_neg, mul_left_comm, mul_sub, mul_le_left, mul_lt_left, mul_zero}
 use Rattle.gas_model.specs.declared.rows.ArcRow.{ArcRow}
 use Rattle.gas_model.specs.declared.rows.NodeRow.{NodeRow}
 use Rattle.gas_model.specs.Points.{sum_arcs, leaving, entering, other, sum_out, sum_in, sum_other_out, sum_other_in, net_flow, balances}
 use Rattle.gas_model.proofs.NodeSums.{own_out, own_in}
 use Rattle.tree_rules.specs.NodeRules.{leaving_step, entering_step, balance_closing}
-use Rattle.tree_rules.proofs.UnitSound.{both, either}
+use Rattle.tree_rules.proofs.UnitSound.{either}
 use Rattle.tree_rules.proofs.ArcSound.{Keeps}
 
 -- k f is at most m g at each row, counted from i
@@ -72,7 +73,7 @@ pub record Balanced (node : NodeRow) (K d : ℤ) (x : ℕ → ℤ) (n : ℕ) (ar
 
 pub balance_says : (node : NodeRow) (d : ℤ) (x : ℕ → ℤ) (n : ℕ) (arcs : List ArcRow) → IsTrue (balances node d x n arcs) → ((d *ℤ node.b_min) ≤ℤ net_flow x n arcs) × (net_flow x n arcs ≤ℤ (d *ℤ node.b_max))
 balance_says node d x n arcs h =
-    let t = both (int_le (d *ℤ node.b_min) (net_flow x n arcs)) (int_le (net_flow x n arcs) (d *ℤ node.b_max)) h in
+    let t = and_parts (int_le (d *ℤ node.b_min) (net_flow x n arcs)) (int_le (net_flow x n arcs) (d *ℤ node.b_max)) h in
     (omega (arith, linear, t.0), omega (arith, linear, t.1))
 
 balanced : (node : NodeRow) (K d : ℤ) (x : ℕ → ℤ) (n : ℕ) (arcs : List ArcRow) → pos 0 <ℤ K → IsTrue (balances node d x n arcs) → Balanced node K d x n arcs

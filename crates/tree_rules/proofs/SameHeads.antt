@@ -2,6 +2,7 @@
 use Rattle.std.proofs.Common.{◌≡◌, ℕ, refl, ap, sym, ◌∙◌, arith, Bool, true, false, ◌&&◌, ◌==◌, IsTrue, eq-eqb}
 use Rattle.std.specs.Ordering.{int_eq}
 use Rattle.std.proofs.lemmas.Bool.Decides.{nat_tests, Decides-int_eq}
+use Rattle.std.proofs.lemmas.Bool.{and_parts, and_from}
 use Rattle.gas_model.specs.declared.rows.ArcState.{ArcState}
 use Rattle.gas_model.specs.declared.rows.ArcState.TheVariants.{Opened, Shut, Active, Bypass}
 use Rattle.gas_model.specs.declared.rows.Var.{Var}
@@ -10,8 +11,7 @@ use Rattle.tree_cert.specs.declared.line.Head.{Head}
 use Rattle.tree_cert.specs.declared.line.Head.TheVariants.{Take, State, Half}
 use Rattle.tree_rules.specs.Branches.{same_var, same_state, same_end, same_head}
 use Rattle.tree_rules.specs.Theorems.{HeadsAreToldApart}
-use Rattle.tree_rules.proofs.UnitSound.{both, eq_says}
-use Rattle.tree_rules.proofs.Scaled.{and_from}
+use Rattle.tree_rules.proofs.UnitSound.{eq_says}
 
 same_place : (i a : ℕ) → IsTrue (i == a) → i ≡ a
 same_place i a t = grind (arith, nat_tests)
@@ -51,18 +51,18 @@ end_self false = refl
 
 head_says : (h e : Head) → IsTrue (same_head h e) → h ≡ e
 head_says (Take k j) (Take g i) t =
-    let b = both (k == g) (j == i) t in
+    let b = and_parts (k == g) (j == i) t in
     let p = same_place k g b.0 in
     let q = same_place j i b.1 in
     cc
 head_says (State a s) (State i r) t =
-    let b = both (a == i) (same_state s r) t in
+    let b = and_parts (a == i) (same_state s r) t in
     let p = same_place a i b.0 in
     let q = state_says s r b.1 in
     cc
 head_says (Half v low C) (Half w end B) t =
-    let b = both (same_var v w && same_end low end) (int_eq C B) t in
-    let c = both (same_var v w) (same_end low end) b.0 in
+    let b = and_parts (same_var v w && same_end low end) (int_eq C B) t in
+    let c = and_parts (same_var v w) (same_end low end) b.0 in
     let p = var_says v w c.0 in
     let q = end_says low end c.1 in
     let r = eq_says C B b.1 in

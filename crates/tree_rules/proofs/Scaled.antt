@@ -2,6 +2,7 @@
 use Rattle.std.proofs.Common.{◌≡◌, ◌⊎◌, inl, inr, sym, ap, ◌∙◌, arith, ℤ, pos, negsuc, ◌-ℤ◌, ◌*ℤ◌, ◌<ℤ◌, Bool, true, false, cond, ◌||◌, ◌&&◌, not, int_le, int_lt, IsTrue}
 use Rattle.std.specs.Ordering.{int_eq}
 use Rattle.std.proofs.lemmas.Bool.Decides.{Decides-int_eq}
+use Rattle.std.proofs.lemmas.Bool.{and_parts, and_from}
 use Rattle.integer_laws.proofs.Ring.{linear, mul_assoc, mul_left_comm, mul_le_left, mul_lt_left, mul_zero, mul_neg, mul_one, le_scale}
 use Rattle.gas_model.specs.declared.rows.Drag.{Drag}
 use Rattle.gas_model.specs.declared.rows.Ends.{Ends}
@@ -11,7 +12,7 @@ use Rattle.tree_cert.specs.declared.line.Rule.{Rule}
 use Rattle.tree_cert.specs.declared.line.Rule.TheVariants.{Pipe, Equal, Zero, Way, Inner, Fall, Order, Rise, Ratio, Sign, Reach, Along, Drop}
 use Rattle.tree_rules.specs.ArcRules.{ArcEnds, ArcVar, OfFlow, OfFrom, OfTo, pipe_step, equal_step, zero_step, way_step, inner_step, fall_step, order_step, rise_step, ratio_step, sign_step, reach_step, along_step, drop_step, arc_step, pipe_closing, drop_closing, arc_closing}
 use Rattle.tree_rules.proofs.CurveLaws.{square_pos, curve_scale, gap_scale, at_least_scale, at_most_scale, sign_scale, sign_scale_back}
-use Rattle.tree_rules.proofs.UnitSound.{both, either}
+use Rattle.tree_rules.proofs.UnitSound.{either}
 
 abbrev pub scaled_ends : ℤ → Ends → Ends
 scaled_ends k e = record { lo = k *ℤ e.lo; hi = k *ℤ e.hi }
@@ -50,14 +51,11 @@ not_least_up k d y x D h t = ap not (at_least_scale k d y x D h) ∙ t
 not_most_up : (k d y x D : ℤ) → pos 0 <ℤ k → IsTrue (not (at_most d y x D)) → IsTrue (not (at_most (k *ℤ d) (k *ℤ y) (k *ℤ x) D))
 not_most_up k d y x D h t = ap not (at_most_scale k d y x D h) ∙ t
 
-pub and_from : (a b : Bool) → IsTrue a → IsTrue b → IsTrue (a && b)
-and_from a b p q = grind arith
-
 or_from : (a b : Bool) → IsTrue a ⊎ IsTrue b → IsTrue (a || b)
 or_from a b h = grind arith
 
 and_up : (a b c d : Bool) → (IsTrue a → IsTrue c) → (IsTrue b → IsTrue d) → IsTrue (a && b) → IsTrue (c && d)
-and_up a b c d f g h = let t = both a b h in and_from c d (f t.0) (g t.1)
+and_up a b c d f g h = let t = and_parts a b h in and_from c d (f t.0) (g t.1)
 
 or_up : (a b c d : Bool) → (IsTrue a → IsTrue c) → (IsTrue b → IsTrue d) → IsTrue (a || b) → IsTrue (c || d)
 or_up a b c d f g h = or_from c d (elim (either a b h) [ inl p ↦ inl (f p) | inr q ↦ inr (g q) ])

@@ -4,6 +4,7 @@ use Rattle.std.specs.List.{filter}
 use Rattle.std.specs.Option.{option_or}
 use Rattle.std.proofs.lemmas.List.Folds.{list_all-append}
 use Rattle.std.proofs.lemmas.Option.{slice_get_within}
+use Rattle.std.proofs.lemmas.Bool.{and_parts, and_from}
 use Rattle.gas_model.specs.declared.rows.ArcKind.{ArcKind}
 use Rattle.gas_model.specs.declared.rows.ArcKind.TheVariants.{Pipe, Short, Resist, Loss, Valve, Control, Station}
 use Rattle.gas_model.specs.declared.rows.ArcRow.{ArcRow}
@@ -14,8 +15,6 @@ use Rattle.gas_model.specs.declared.rows.PartState.{PartState}
 use Rattle.gas_model.specs.Rows.{Network}
 use Rattle.gas_model.specs.Choices.{states_of, has_state, allows, words_if, words_for, IsListed, only, named_state, words_allow, allowed_states, fixed_state}
 use Rattle.tree_rules.specs.Theorems.{Agrees}
-use Rattle.tree_rules.proofs.UnitSound.{both}
-use Rattle.tree_rules.proofs.Scaled.{and_from}
 use Rattle.tree_rules.proofs.CutSound.{get_some}
 
 -- ---- lists of states
@@ -80,10 +79,10 @@ words_fewer (g ∷ groups) [] picks a t h p = refl
 words_fewer (g ∷ groups) (o ∷ some) [] a t h p = ap (words_allow t) (no_words (g ∷ groups) (o ∷ some) a h)
 words_fewer (g ∷ groups) (None ∷ some) (i ∷ picks) a t h p =
     let parts = list_all-append (λ word. allows word t) (words_if (slice_get g.decisions i) a) (words_for groups (map Some picks) a) in
-    words_fewer groups some picks a t (fewer_rest None i some picks h) (both _ _ (sym parts ∙ p)).1
+    words_fewer groups some picks a t (fewer_rest None i some picks h) (and_parts _ _ (sym parts ∙ p)).1
 words_fewer (g ∷ groups) (Some j ∷ some) (i ∷ picks) a t h p =
     let parts = list_all-append (λ word. allows word t) (words_if (slice_get g.decisions i) a) (words_for groups (map Some picks) a) in
-    let says = both (words_allow t (words_if (slice_get g.decisions i) a)) (words_allow t (words_for groups (map Some picks) a)) (sym parts ∙ p) in
+    let says = and_parts (words_allow t (words_if (slice_get g.decisions i) a)) (words_allow t (words_for groups (map Some picks) a)) (sym parts ∙ p) in
     let same : Some i ≡ Some j = h.at 0 j refl in
     let here : IsTrue (words_allow t (words_if (slice_get g.decisions j) a)) = subst (λ (k : ℕ). IsTrue (words_allow t (words_if (slice_get g.decisions k) a))) (let e : i ≡ j = cc in e) says.0 in
     let later = words_fewer groups some picks a t (fewer_rest (Some j) i some picks h) says.1 in
@@ -99,7 +98,7 @@ pub state_of : (p : Network) (part : PartState) (picks : List ℕ) (states : Lis
     → (t : ArcState) × (slice_get states a ≡ Some t) × HasState p part a row t
 state_of p part picks states a row listed agrees at =
     let found = get_some states a (omega (arith, listed.one_each, slice_get_within p.arcs a row at)) in
-    let may = both (has_state row.kind found.0) (words_allow found.0 (words_for p.groups (map Some picks) a)) (listed.allowed a row found.0 at found.1) in
+    let may = and_parts (has_state row.kind found.0) (words_allow found.0 (words_for p.groups (map Some picks) a)) (listed.allowed a row found.0 at found.1) in
     (found.0, found.1, record { kind = may.0; words = words_fewer p.groups part.picks picks a found.0 (record { at = agrees.picked }) may.1 })
 
 pub one_allowed : (p : Network) (part : PartState) (a : ℕ) (row : ArcRow) (t : ArcState) → HasState p part a row t → IsOneOf t (allowed_states p part a row)

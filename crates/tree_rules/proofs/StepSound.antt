@@ -1,7 +1,7 @@
 -- A point of a box stays in it after an allowed step, and is in no box in which a closing holds.
 use Rattle.std.proofs.Common.{◌≡◌, ◌⊎◌, ℕ, ◌<◌, inl, inr, refl, sym, ap, ◌∙◌, subst, arith, ℤ, pos, ◌≤ℤ◌, ◌<ℤ◌, Bool, true, false, cond, ◌&&◌, ◌||◌, not, ◌==◌, nat_lt, int_le, IsTrue, List, length, slice_get, slice_index_or, slice_set, Option, Some, None, option_map, get_or-set_same, get_or-set_other, length-set, zero-add}
 use Rattle.std.specs.Option.{option_map_or}
-use Rattle.std.proofs.lemmas.Bool.{cases_eq}
+use Rattle.std.proofs.lemmas.Bool.{cases_eq, and_parts}
 use Rattle.std.proofs.lemmas.Bool.Decides.{nat_tests}
 use Rattle.std.proofs.lemmas.Option.{slice_get_within, get_or_from_slice_get}
 use Rattle.integer_laws.proofs.Ring.{linear, mul_lt_left}
@@ -31,7 +31,7 @@ use Rattle.tree_rules.specs.ArcRules.{ArcVar, OfFlow, OfFrom, OfTo, arc_step, ar
 use Rattle.tree_rules.specs.NodeRules.{leaving_step, entering_step, balance_closing, are_cut_nodes, crosses, all_arcs, is_unbalanced}
 use Rattle.tree_rules.specs.Rules.{PartBox, flow_lo, flow_hi, arc_ends, arc_var, fixed_form, form_step, row_step, law_step, flow_step, node_step, balance_step, rule_holds, is_allowed, step_holds, stepped, is_shut, cuts, row_closing, closing_at, closing_holds}
 use Rattle.tree_rules.specs.Theorems.{IsBoxOf, IsIn, RulesKeepPoints, StepsKeepPoints, ClosingsRefute}
-use Rattle.tree_rules.proofs.UnitSound.{IsForm, IsDrag, IsRatio, value_of, both, eq_says}
+use Rattle.tree_rules.proofs.UnitSound.{IsForm, IsDrag, IsRatio, value_of, eq_says}
 use Rattle.tree_rules.proofs.ArcSound.{ArcWithin, Keeps, arc_step_keeps, arc_closing_none}
 use Rattle.tree_rules.proofs.NodeSound.{Flows, leaving_keeps, entering_keeps, balance_closed}
 use Rattle.tree_rules.proofs.CutSound.{each_arc, IsCutOff, cut_closed}
@@ -40,28 +40,28 @@ use Rattle.tree_rules.proofs.States.{fixed_is}
 -- ---- the numbers of a law
 drag_within : (law : Drag) → IsTrue (is_drag_within law) → IsDrag law
 drag_within law h =
-    let a = both (is_drag_part law.lo && is_drag_part law.hi && is_drag_part law.den) (int_le law.lo law.hi) h in
-    let b = both (is_drag_part law.lo && is_drag_part law.hi) (is_drag_part law.den) a.0 in
-    let c = both (is_drag_part law.lo) (is_drag_part law.hi) b.0 in
+    let a = and_parts (is_drag_part law.lo && is_drag_part law.hi && is_drag_part law.den) (int_le law.lo law.hi) h in
+    let b = and_parts (is_drag_part law.lo && is_drag_part law.hi) (is_drag_part law.den) a.0 in
+    let c = and_parts (is_drag_part law.lo) (is_drag_part law.hi) b.0 in
     record {
-      lo = let t = both (int_le (pos 1) law.lo) (int_le law.lo (pos 274877906944)) c.0 in omega (arith, linear, t.0);
-      hi = let t = both (int_le (pos 1) law.hi) (int_le law.hi (pos 274877906944)) c.1 in omega (arith, linear, t.0);
-      den = let t = both (int_le (pos 1) law.den) (int_le law.den (pos 274877906944)) b.1 in omega (arith, linear, t.0);
+      lo = let t = and_parts (int_le (pos 1) law.lo) (int_le law.lo (pos 274877906944)) c.0 in omega (arith, linear, t.0);
+      hi = let t = and_parts (int_le (pos 1) law.hi) (int_le law.hi (pos 274877906944)) c.1 in omega (arith, linear, t.0);
+      den = let t = and_parts (int_le (pos 1) law.den) (int_le law.den (pos 274877906944)) b.1 in omega (arith, linear, t.0);
     }
 
 ratio_within : (num den : ℤ) → IsTrue (is_ratio_within num den) → IsRatio num den
 ratio_within num den h =
-    let a = both (is_ratio_part num) (is_ratio_part den) h in
+    let a = and_parts (is_ratio_part num) (is_ratio_part den) h in
     record {
-      upper = let t = both (int_le (pos 1) num) (int_le num (pos 1048576)) a.0 in omega (arith, linear, t.0);
-      lower = let t = both (int_le (pos 1) den) (int_le den (pos 1048576)) a.1 in omega (arith, linear, t.0);
+      upper = let t = and_parts (int_le (pos 1) num) (int_le num (pos 1048576)) a.0 in omega (arith, linear, t.0);
+      lower = let t = and_parts (int_le (pos 1) den) (int_le den (pos 1048576)) a.1 in omega (arith, linear, t.0);
     }
 
 form_within : (kind : ArcKind) (state : ArcState) → IsTrue (is_kind_within kind) → IsForm (form_of kind state)
 form_within (Pipe law) Opened h = drag_within law h
 form_within (Resist law) Opened h = drag_within law h
 form_within (Station in_min out_max ratio_num ratio_den rise_max) Active h =
-    ratio_within ratio_num ratio_den (both (are_station_pressures in_min out_max rise_max) (is_ratio_within ratio_num ratio_den) h).1
+    ratio_within ratio_num ratio_den (and_parts (are_station_pressures in_min out_max rise_max) (is_ratio_within ratio_num ratio_den) h).1
 form_within Short Opened h = tt
 form_within (Loss low high) Opened h = tt
 form_within Valve Opened h = tt
@@ -69,7 +69,7 @@ form_within (Control in_min out_max red_min red_max) Active h = tt
 form_within kind state h = tt
 
 pub row_form : (p : Network) (a : ℕ) (row : ArcRow) (state : ArcState) → IsWithin p → slice_get p.arcs a ≡ Some row → IsForm (form_of row.kind state)
-row_form p a row state w at = form_within row.kind state (both (is_id row.id && is_flow row.q_min && is_flow row.q_max) (is_kind_within row.kind) (w.arcs a row at)).1
+row_form p a row state w at = form_within row.kind state (and_parts (is_id row.id && is_flow row.q_min && is_flow row.q_max) (is_kind_within row.kind) (w.arcs a row at)).1
 
 -- ---- a box in which the ends of one variable have changed
 pub kept_end : (K d n : ℤ) (low : Bool) (C : ℤ) (e : Ends) → IsBetween K d n e → Keeps K d n low C → IsBetween K d n (with_end low C e)
@@ -263,7 +263,7 @@ rule_keeps p b s picks states x t h =
 
 pub step_keeps : (p : Network) (b : PartBox) (s : Step) (picks : List ℕ) (states : List ArcState) (x : Point) → IsTrue (step_holds p b s) → Stands p b picks states x → Stands p (stepped b s) picks states x
 step_keeps p b s picks states x t h =
-    let a = both (is_var p s.var && is_allowed b.bounds s.rule s.var s.low s.value) (rule_holds p b s.rule s.place s.var s.low s.value) t in
+    let a = and_parts (is_var p s.var && is_allowed b.bounds s.rule s.var s.low s.value) (rule_holds p b s.rule s.place s.var s.low s.value) t in
     (rule_keeps p b s picks states x a.1 h).1
 
 pub rules_keep_points : RulesKeepPoints
@@ -289,7 +289,7 @@ closed_at p b picks states x rule a s t = law_closed p b picks states x rule a s
 
 empty_closed : (p : Network) (b : PartBox) (picks : List ℕ) (states : List ArcState) (x : Point) (v : Var) → Stands p b picks states x → IsTrue (is_var p v && is_empty (ends_of b.bounds v)) → ⊥
 empty_closed p b picks states x v s t =
-    let tests = both (is_var p v) (is_empty (ends_of b.bounds v)) t in
+    let tests = and_parts (is_var p v) (is_empty (ends_of b.bounds v)) t in
     let between = s.is_in.inside v (in_box p b.bounds v s.box.fits tests.0) in
     let crossed = mul_lt_left x.d (ends_of b.bounds v).hi (ends_of b.bounds v).lo (scale_pos x.d x.positive) (omega (arith, linear, tests.1)) in
     omega (arith, linear, between.above, between.below)
@@ -328,8 +328,8 @@ cut_off p b picks states x ns s t = record {
 
 cut_none : (p : Network) (b : PartBox) (picks : List ℕ) (states : List ArcState) (x : Point) (ns : List ℕ) → Stands p b picks states x → IsTrue (cuts p b.part ns) → ⊥
 cut_none p b picks states x ns s t =
-    let tests = both (are_cut_nodes p.nodes ns && all_arcs (λ a row. not (crosses ns row) || is_shut (fixed_state p b.part a row)) 0 p.arcs) (is_unbalanced p.nodes ns) t in
-    let more = both (are_cut_nodes p.nodes ns) (all_arcs (λ a row. not (crosses ns row) || is_shut (fixed_state p b.part a row)) 0 p.arcs) tests.0 in
+    let tests = and_parts (are_cut_nodes p.nodes ns && all_arcs (λ a row. not (crosses ns row) || is_shut (fixed_state p b.part a row)) 0 p.arcs) (is_unbalanced p.nodes ns) t in
+    let more = and_parts (are_cut_nodes p.nodes ns) (all_arcs (λ a row. not (crosses ns row) || is_shut (fixed_state p b.part a row)) 0 p.arcs) tests.0 in
     cut_closed p.nodes x.d x.flow p.arcs ns (scale_pos x.d x.positive) (λ n node e. s.is_in.meets.balances n node e) (cut_off p b picks states x ns s more.1) more.0 tests.1
 
 pub closing_none : (p : Network) (b : PartBox) (c : Closing) (picks : List ℕ) (states : List ArcState) (x : Point) → IsTrue (closing_holds p b c) → Stands p b picks states x → ⊥

@@ -5,6 +5,7 @@ use Rattle.std.specs.List.{range_with_len}
 use Rattle.std.proofs.lemmas.Bool.Decides.{nat_tests}
 use Rattle.std.proofs.lemmas.List.{length-map}
 use Rattle.std.proofs.lemmas.Option.{slice_get_within, slice_get-map, get_or_from_slice_get}
+use Rattle.std.proofs.lemmas.Bool.{and_parts}
 use Rattle.integer_laws.proofs.Ring.{linear, mul_left_comm, mul_le_left, le_or_lt}
 use Rattle.gas_model.specs.declared.rows.ArcRow.{ArcRow}
 use Rattle.gas_model.specs.declared.rows.ArcState.{ArcState}
@@ -31,7 +32,6 @@ use Rattle.tree_cert.specs.TreeRules.{Holds, Passes}
 use Rattle.tree_rules.specs.Rules.{PartBox, step_holds, stepped, after_step}
 use Rattle.tree_rules.specs.Branches.{Wait, Heads, Halves, with_pick, with_state, headed, decision_heads, group_heads, state_heads, arc_heads, after_branch, same_var, same_head, lies_inside, lower_half, upper_half, after_head, is_over, root_box, root_of, rules_of}
 use Rattle.tree_rules.specs.Theorems.{Agrees, TreesRefuteBoxes, TextsRefute}
-use Rattle.tree_rules.proofs.UnitSound.{both}
 use Rattle.tree_rules.proofs.CutSound.{get_some}
 use Rattle.tree_rules.proofs.States.{IsOneOf, state_of, one_allowed}
 use Rattle.tree_rules.proofs.StepSound.{Stands, Kept, step_keeps, closing_none, end_moved, map_is}
@@ -79,7 +79,7 @@ opened f xs i y e = get_or_from_slice_get (map f xs) i (f y) no_ends (slice_get-
 
 scaled_between : (K d n lo hi : ℤ) → pos 0 <ℤ K → IsTrue (between (d *ℤ lo) n (d *ℤ hi)) → IsBetween K d n (record { lo = K *ℤ lo; hi = K *ℤ hi })
 scaled_between K d n lo hi k h =
-    let t = both (int_le (d *ℤ lo) n) (int_le n (d *ℤ hi)) h in
+    let t = and_parts (int_le (d *ℤ lo) n) (int_le n (d *ℤ hi)) h in
     record {
       above = omega (arith, linear, mul_left_comm d K lo, mul_le_left K (d *ℤ lo) n (omega (arith, linear)) (omega (arith, linear, t.0)));
       below = omega (arith, linear, mul_left_comm d K hi, mul_le_left K n (d *ℤ hi) (omega (arith, linear)) (omega (arith, linear, t.1)));

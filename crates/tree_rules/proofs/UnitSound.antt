@@ -2,6 +2,7 @@
 use Rattle.std.proofs.Common.{◌≡◌, ◌⊎◌, inl, inr, arith, ℤ, pos, negsuc, ◌-ℤ◌, ◌*ℤ◌, ◌≤ℤ◌, ◌<ℤ◌, Bool, true, false, cond, ◌||◌, ◌&&◌, not, int_le, int_lt, IsTrue}
 use Rattle.std.specs.Ordering.{int_eq}
 use Rattle.std.proofs.lemmas.Bool.Decides.{Decides-int_eq}
+use Rattle.std.proofs.lemmas.Bool.{and_parts}
 use Rattle.integer_laws.proofs.Ring.{linear, mul_le_left, le_or_lt, le_of_mul_left, mul_pos, square_nonneg}
 use Rattle.gas_model.specs.declared.rows.Drag.{Drag}
 use Rattle.gas_model.specs.Curves.{square, drop_low, drop_high, at_most, at_least, meets_resistance, falls_between, meets_loss, keeps_inner, keeps_ratio, rises_within}
@@ -46,9 +47,6 @@ value_of OfFrom q u v = u
 value_of OfTo q u v = v
 
 -- ---- tests
-pub both : (a b : Bool) → IsTrue (a && b) → IsTrue a × IsTrue b
-both a b h = grind arith
-
 pub either : (a b : Bool) → IsTrue (a || b) → IsTrue a ⊎ IsTrue b
 either a b h = grind arith
 
@@ -59,7 +57,7 @@ not_true false n h = cc
 -- ---- resistances
 pub drag_says : (law : Drag) (N q u v : ℤ) → IsTrue (meets_resistance law N q u v) → (drop_low law q ≤ℤ (law.den *ℤ N *ℤ (u -ℤ v))) × ((law.den *ℤ N *ℤ (u -ℤ v)) ≤ℤ drop_high law q)
 drag_says law N q u v h =
-    let t = both (int_le (drop_low law q) (law.den *ℤ N *ℤ (u -ℤ v))) (int_le (law.den *ℤ N *ℤ (u -ℤ v)) (drop_high law q)) h in
+    let t = and_parts (int_le (drop_low law q) (law.den *ℤ N *ℤ (u -ℤ v))) (int_le (law.den *ℤ N *ℤ (u -ℤ v)) (drop_high law q)) h in
     (omega (arith, linear, t.0), omega (arith, linear, t.1))
 
 factor_pos : (law : Drag) (N : ℤ) → IsDrag law → pos 0 <ℤ N → pos 0 <ℤ (law.den *ℤ N)
@@ -129,10 +127,10 @@ way_sound q u v OfTo low C h t = absurd cc
 
 inner_sound : (in_min out_max N q u v : ℤ) (x : ArcVar) (low : Bool) (C : ℤ) → IsTrue (keeps_inner in_min out_max N u v) → IsTrue (inner_step in_min out_max N x low C) → Beyond low C (value_of x q u v)
 inner_sound in_min out_max N q u v OfFrom true C h t =
-    let s = both (int_le (N *ℤ square in_min) u) (int_le v (N *ℤ square out_max)) h in
+    let s = and_parts (int_le (N *ℤ square in_min) u) (int_le v (N *ℤ square out_max)) h in
     omega (arith, linear, s.0)
 inner_sound in_min out_max N q u v OfTo false C h t =
-    let s = both (int_le (N *ℤ square in_min) u) (int_le v (N *ℤ square out_max)) h in
+    let s = and_parts (int_le (N *ℤ square in_min) u) (int_le v (N *ℤ square out_max)) h in
     omega (arith, linear, s.1)
 inner_sound in_min out_max N q u v OfFlow low C h t = absurd cc
 inner_sound in_min out_max N q u v OfFrom false C h t = absurd cc
@@ -141,21 +139,21 @@ inner_sound in_min out_max N q u v OfTo true C h t = absurd cc
 fall_sound : (m M N q u v : ℤ) (e : ArcEnds) (x : ArcVar) (low : Bool) (C : ℤ) → pos 0 ≤ℤ N → IsTrue (falls_between m M N u v) → Inside q u v e → IsTrue (fall_step m M N e x low C) → Beyond low C (value_of x q u v)
 fall_sound m M N q u v e OfFlow low C k h w t = absurd cc
 fall_sound m M N q u v e OfFrom true C k h w t =
-    let s = both (at_least N u v m) (at_most N u v M) h in
+    let s = and_parts (at_least N u v m) (at_most N u v M) h in
     at_most-at_least N C u v m (at_most_grow N C e.v.lo m C v k t (omega (arith, linear)) w.v_lo) s.0
 fall_sound m M N q u v e OfFrom false C k h w t =
-    let s = both (at_least N u v m) (at_most N u v M) h in
+    let s = and_parts (at_least N u v m) (at_most N u v M) h in
     at_most-at_least N u C v M s.1 (at_least_grow N C e.v.hi M C v k t (omega (arith, linear)) w.v_hi)
 fall_sound m M N q u v e OfTo true C k h w t =
-    let s = both (at_least N u v m) (at_most N u v M) h in
+    let s = and_parts (at_least N u v m) (at_most N u v M) h in
     at_least-at_most N u C v M k (at_least_grow N e.u.lo C M u C k t w.u_lo (omega (arith, linear))) s.1
 fall_sound m M N q u v e OfTo false C k h w t =
-    let s = both (at_least N u v m) (at_most N u v M) h in
+    let s = and_parts (at_least N u v m) (at_most N u v M) h in
     at_least-at_most N u v C m k s.0 (at_most_grow N e.u.hi C m u C k t w.u_hi (omega (arith, linear)))
 
 fall_closed : (m M N q u v : ℤ) (e : ArcEnds) → pos 0 ≤ℤ N → IsTrue (falls_between m M N u v) → Inside q u v e → IsTrue (fall_closing m M N e) → ⊥
 fall_closed m M N q u v e k h w t =
-    let s = both (at_least N u v m) (at_most N u v M) h in
+    let s = and_parts (at_least N u v m) (at_most N u v M) h in
     elim (either (not (at_least N e.u.hi e.v.lo m)) (not (at_most N e.u.lo e.v.hi M)) t) [
       | inl little ↦ not_true (at_least N e.u.hi e.v.lo m) little (at_least_grow N u v m e.u.hi e.v.lo k s.0 w.u_hi w.v_lo)
       | inr much ↦ not_true (at_most N e.u.lo e.v.hi M) much (at_most_grow N u v M e.u.lo e.v.hi k s.1 w.u_lo w.v_hi)
@@ -222,11 +220,11 @@ reach_says : (m M N q u v : ℤ) → pos 0 ≤ℤ N → LossSays m M N q u v →
 reach_says m M N q u v k s =
     elim (le_or_lt q (pos 0)) [
       | inr forward ↦
-          let f = both (at_least N u v m) (at_most N u v M) (s.forward forward) in
+          let f = and_parts (at_least N u v m) (at_most N u v M) (s.forward forward) in
           (f.1, at_most-below N v u M k (at_least-le N u v m k f.0))
       | inl none ↦ elim (le_or_lt (pos 0) q) [
         | inr back ↦
-            let f = both (at_least N v u m) (at_most N v u M) (s.back back) in
+            let f = and_parts (at_least N v u m) (at_most N v u M) (s.back back) in
             (at_most-below N u v M k (at_least-le N v u m k f.0), f.1)
         | inl still ↦
             let same : u ≡ v = s.still (omega (arith, linear)) in
@@ -238,30 +236,30 @@ reach_says m M N q u v k s =
 along_says : (m M N q u v : ℤ) → pos 0 ≤ℤ N → LossSays m M N q u v → (pos 0 ≤ℤ q → v ≤ℤ u) × (q ≤ℤ pos 0 → u ≤ℤ v)
 along_says m M N q u v k s = (
   λ p. elim (le_or_lt q (pos 0)) [
-    | inr forward ↦ at_least-le N u v m k (both (at_least N u v m) (at_most N u v M) (s.forward forward)).0
+    | inr forward ↦ at_least-le N u v m k (and_parts (at_least N u v m) (at_most N u v M) (s.forward forward)).0
     | inl none ↦ let same : u ≡ v = s.still (omega (arith, linear)) in omega (arith, linear)
   ],
   λ p. elim (le_or_lt (pos 0) q) [
-    | inr back ↦ at_least-le N v u m k (both (at_least N v u m) (at_most N v u M) (s.back back)).0
+    | inr back ↦ at_least-le N v u m k (and_parts (at_least N v u m) (at_most N v u M) (s.back back)).0
     | inl none ↦ let same : u ≡ v = s.still (omega (arith, linear)) in omega (arith, linear)
   ],
 )
 
 sign_sound : (m M N q u v : ℤ) (e : ArcEnds) (x : ArcVar) (low : Bool) (C : ℤ) → pos 0 ≤ℤ N → LossSays m M N q u v → Inside q u v e → IsTrue (sign_step m N e x low C) → Beyond low C (value_of x q u v)
 sign_sound m M N q u v e OfFlow true C k s w t =
-    let b = both (int_le C (pos 0)) (not (at_least N e.v.hi e.u.lo m)) t in
+    let b = and_parts (int_le C (pos 0)) (not (at_least N e.v.hi e.u.lo m)) t in
     elim (le_or_lt (pos 0) q) [
       | inl fine ↦ omega (arith, linear, b.0)
       | inr back ↦
-          let f = both (at_least N v u m) (at_most N v u M) (s.back back) in
+          let f = and_parts (at_least N v u m) (at_most N v u M) (s.back back) in
           absurd (not_true (at_least N e.v.hi e.u.lo m) b.1 (at_least_grow N v u m e.v.hi e.u.lo k f.0 w.v_hi w.u_lo))
     ]
 sign_sound m M N q u v e OfFlow false C k s w t =
-    let b = both (int_le (pos 0) C) (not (at_least N e.u.hi e.v.lo m)) t in
+    let b = and_parts (int_le (pos 0) C) (not (at_least N e.u.hi e.v.lo m)) t in
     elim (le_or_lt q (pos 0)) [
       | inl fine ↦ omega (arith, linear, b.0)
       | inr forward ↦
-          let f = both (at_least N u v m) (at_most N u v M) (s.forward forward) in
+          let f = and_parts (at_least N u v m) (at_most N u v M) (s.forward forward) in
           absurd (not_true (at_least N e.u.hi e.v.lo m) b.1 (at_least_grow N u v m e.u.hi e.v.lo k f.0 w.u_hi w.v_lo))
     ]
 sign_sound m M N q u v e OfFrom low C k s w t = absurd cc
@@ -289,51 +287,51 @@ reach_closed m M N q u v e k s w t =
 along_sound : (m M N q u v : ℤ) (e : ArcEnds) (x : ArcVar) (low : Bool) (C : ℤ) → pos 0 ≤ℤ N → LossSays m M N q u v → Inside q u v e → IsTrue (along_step e x low C) → Beyond low C (value_of x q u v)
 along_sound m M N q u v e OfFlow low C k s w t = absurd cc
 along_sound m M N q u v e OfFrom true C k s w t =
-    let b = both (int_le (pos 0) e.q.lo) (int_le C e.v.lo) t in
+    let b = and_parts (int_le (pos 0) e.q.lo) (int_le C e.v.lo) t in
     let f = (along_says m M N q u v k s).0 (omega (arith, linear, b.0, w.q_lo)) in
     omega (arith, linear, b.1, f, w.v_lo)
 along_sound m M N q u v e OfFrom false C k s w t =
-    let b = both (int_le e.q.hi (pos 0)) (int_le e.v.hi C) t in
+    let b = and_parts (int_le e.q.hi (pos 0)) (int_le e.v.hi C) t in
     let f = (along_says m M N q u v k s).1 (omega (arith, linear, b.0, w.q_hi)) in
     omega (arith, linear, b.1, f, w.v_hi)
 along_sound m M N q u v e OfTo true C k s w t =
-    let b = both (int_le e.q.hi (pos 0)) (int_le C e.u.lo) t in
+    let b = and_parts (int_le e.q.hi (pos 0)) (int_le C e.u.lo) t in
     let f = (along_says m M N q u v k s).1 (omega (arith, linear, b.0, w.q_hi)) in
     omega (arith, linear, b.1, f, w.u_lo)
 along_sound m M N q u v e OfTo false C k s w t =
-    let b = both (int_le (pos 0) e.q.lo) (int_le e.u.hi C) t in
+    let b = and_parts (int_le (pos 0) e.q.lo) (int_le e.u.hi C) t in
     let f = (along_says m M N q u v k s).0 (omega (arith, linear, b.0, w.q_lo)) in
     omega (arith, linear, b.1, f, w.u_hi)
 
 drop_sound : (m M N q u v : ℤ) (e : ArcEnds) (x : ArcVar) (low : Bool) (C : ℤ) → pos 0 ≤ℤ N → LossSays m M N q u v → Inside q u v e → IsTrue (drop_step m N e x low C) → Beyond low C (value_of x q u v)
 drop_sound m M N q u v e OfFlow low C k s w t = absurd cc
 drop_sound m M N q u v e OfFrom true C k s w t =
-    let b = both (int_le (pos 1) e.q.lo) (at_most N C e.v.lo m) t in
-    let f = both (at_least N u v m) (at_most N u v M) (s.forward (omega (arith, linear, b.0, w.q_lo))) in
+    let b = and_parts (int_le (pos 1) e.q.lo) (at_most N C e.v.lo m) t in
+    let f = and_parts (at_least N u v m) (at_most N u v M) (s.forward (omega (arith, linear, b.0, w.q_lo))) in
     at_most-at_least N C u v m (at_most_grow N C e.v.lo m C v k b.1 (omega (arith, linear)) w.v_lo) f.0
 drop_sound m M N q u v e OfFrom false C k s w t =
-    let b = both (int_le e.q.hi (negsuc 0)) (at_most N e.v.hi C m) t in
-    let f = both (at_least N v u m) (at_most N v u M) (s.back (omega (arith, linear, b.0, w.q_hi))) in
+    let b = and_parts (int_le e.q.hi (negsuc 0)) (at_most N e.v.hi C m) t in
+    let f = and_parts (at_least N v u m) (at_most N v u M) (s.back (omega (arith, linear, b.0, w.q_hi))) in
     at_least-at_most N v u C m k f.0 (at_most_grow N e.v.hi C m v C k b.1 w.v_hi (omega (arith, linear)))
 drop_sound m M N q u v e OfTo true C k s w t =
-    let b = both (int_le e.q.hi (negsuc 0)) (at_most N C e.u.lo m) t in
-    let f = both (at_least N v u m) (at_most N v u M) (s.back (omega (arith, linear, b.0, w.q_hi))) in
+    let b = and_parts (int_le e.q.hi (negsuc 0)) (at_most N C e.u.lo m) t in
+    let f = and_parts (at_least N v u m) (at_most N v u M) (s.back (omega (arith, linear, b.0, w.q_hi))) in
     at_most-at_least N C v u m (at_most_grow N C e.u.lo m C u k b.1 (omega (arith, linear)) w.u_lo) f.0
 drop_sound m M N q u v e OfTo false C k s w t =
-    let b = both (int_le (pos 1) e.q.lo) (at_most N e.u.hi C m) t in
-    let f = both (at_least N u v m) (at_most N u v M) (s.forward (omega (arith, linear, b.0, w.q_lo))) in
+    let b = and_parts (int_le (pos 1) e.q.lo) (at_most N e.u.hi C m) t in
+    let f = and_parts (at_least N u v m) (at_most N u v M) (s.forward (omega (arith, linear, b.0, w.q_lo))) in
     at_least-at_most N u v C m k f.0 (at_most_grow N e.u.hi C m u C k b.1 w.u_hi (omega (arith, linear)))
 
 drop_closed : (m M N q u v : ℤ) (e : ArcEnds) → pos 0 ≤ℤ N → LossSays m M N q u v → Inside q u v e → IsTrue (drop_closing m N e) → ⊥
 drop_closed m M N q u v e k s w t =
     elim (either (int_le (pos 1) e.q.lo && not (at_least N e.u.hi e.v.lo m)) (int_le e.q.hi (negsuc 0) && not (at_least N e.v.hi e.u.lo m)) t) [
       | inl one ↦
-          let b = both (int_le (pos 1) e.q.lo) (not (at_least N e.u.hi e.v.lo m)) one in
-          let f = both (at_least N u v m) (at_most N u v M) (s.forward (omega (arith, linear, b.0, w.q_lo))) in
+          let b = and_parts (int_le (pos 1) e.q.lo) (not (at_least N e.u.hi e.v.lo m)) one in
+          let f = and_parts (at_least N u v m) (at_most N u v M) (s.forward (omega (arith, linear, b.0, w.q_lo))) in
           not_true (at_least N e.u.hi e.v.lo m) b.1 (at_least_grow N u v m e.u.hi e.v.lo k f.0 w.u_hi w.v_lo)
       | inr other ↦
-          let b = both (int_le e.q.hi (negsuc 0)) (not (at_least N e.v.hi e.u.lo m)) other in
-          let f = both (at_least N v u m) (at_most N v u M) (s.back (omega (arith, linear, b.0, w.q_hi))) in
+          let b = and_parts (int_le e.q.hi (negsuc 0)) (not (at_least N e.v.hi e.u.lo m)) other in
+          let f = and_parts (at_least N v u m) (at_most N v u M) (s.back (omega (arith, linear, b.0, w.q_hi))) in
           not_true (at_least N e.v.hi e.u.lo m) b.1 (at_least_grow N v u m e.v.hi e.u.lo k f.0 w.v_hi w.u_lo)
     ]
 
@@ -345,8 +343,8 @@ pub record ReducesSays (in_min out_max m M N q u v : ℤ) : Type 0 where
 
 reduces_says : (in_min out_max m M N q u v : ℤ) → IsTrue (meets_form (reduces in_min out_max m M) N q u v) → ReducesSays in_min out_max m M N q u v
 reduces_says in_min out_max m M N q u v h =
-    let a = both (int_le (pos 0) q && falls_between m M N u v) (keeps_inner in_min out_max N u v) h in
-    let b = both (int_le (pos 0) q) (falls_between m M N u v) a.0 in
+    let a = and_parts (int_le (pos 0) q && falls_between m M N u v) (keeps_inner in_min out_max N u v) h in
+    let b = and_parts (int_le (pos 0) q) (falls_between m M N u v) a.0 in
     record { way = b.0; falls = b.1; inner = a.1 }
 
 pub record RaisesSays (in_min out_max num den M N q u v : ℤ) : Type 0 where
@@ -358,10 +356,10 @@ pub record RaisesSays (in_min out_max num den M N q u v : ℤ) : Type 0 where
 
 raises_says : (in_min out_max num den M N q u v : ℤ) → IsTrue (meets_form (raises in_min out_max num den M) N q u v) → RaisesSays in_min out_max num den M N q u v
 raises_says in_min out_max num den M N q u v h =
-    let a = both (int_le (pos 0) q && rises_within num den M N u v) (keeps_inner in_min out_max N u v) h in
-    let b = both (int_le (pos 0) q) (rises_within num den M N u v) a.0 in
-    let c = both (int_le u v && at_most N v u M) (keeps_ratio num den u v) b.1 in
-    let d = both (int_le u v) (at_most N v u M) c.0 in
+    let a = and_parts (int_le (pos 0) q && rises_within num den M N u v) (keeps_inner in_min out_max N u v) h in
+    let b = and_parts (int_le (pos 0) q) (rises_within num den M N u v) a.0 in
+    let c = and_parts (int_le u v && at_most N v u M) (keeps_ratio num den u v) b.1 in
+    let d = and_parts (int_le u v) (at_most N v u M) c.0 in
     record { way = b.0; order = omega (arith, linear, d.0); rise = d.1; ratio = c.1; inner = a.1 }
 
 -- ---- all rules

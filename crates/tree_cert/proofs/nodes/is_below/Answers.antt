@@ -1,4 +1,6 @@
-use Rattle.std.proofs.Common.{◌<◌, length, sym, ◌∙◌, arith}
+use Rattle.std.proofs.Common.{◌<◌, length, refl, sym, ap, ◌∙◌, arith, is_lt, nat_cmp}
+use Rattle.std.specs.Ordering.{is_some_and}
+use Rattle.std.specs.Cmp.Lexicographic.{lists_agrees}
 use Rattle.std.proofs.lemmas.Bool.{lt-ltb, le-ltb, ne_eqb}
 use Rattle.tree_cert.proofs.Below.{same_length, shorter, digits_of}
 use Rattle.tree_cert.proofs.nodes.is_below.Goals as goal
@@ -11,6 +13,7 @@ returns-then-number-other c =
 pub returns-then-number-other-2 : goal.returns-then-number-other-2
 returns-then-number-other-2 c =
     c.lt.ensures
+    ∙ ap (λ o. is_some_and is_lt o) (lists_agrees {R = nat_cmp} (λ x y. refl) c.args.number.now c.args.other.now)
     ∙ same_length c.args.number.now c.args.other.now (digits_of c.args.number.now c.requires.number) (digits_of c.args.other.now c.requires.other) (omega arith)
 
 pub returns-else-number-other-2 : goal.returns-else-number-other-2

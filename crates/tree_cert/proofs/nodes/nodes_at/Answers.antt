@@ -1,6 +1,6 @@
 use Rattle.std.proofs.Common.{◌≡◌, true, false, nat_lt, refl, sym, ap, ◌∙◌}
 use Rattle.std.specs.Str.Parse.{digits_value}
-use Rattle.tree_cert.proofs.NodeLists.{more_at, first_is, next_is, node_is, node_digits, numeral_text, more_gone, nodes_gone, rest_shorter, some_bytes}
+use Rattle.tree_cert.proofs.NodeLists.{more_at, first_is, next_is, node_is, node_digits, more_gone, nodes_gone, rest_shorter, some_bytes}
 use Rattle.tree_cert.proofs.nodes.nodes_at.Goals as goal
 
 pub returns-in_default : goal.returns-in_default
@@ -18,9 +18,6 @@ loop-last-init c =
       answer = first_is c.args.bytes.now _ _ _ n ∙ ap (λ nodes. more_at (digits_value 10 c.in-Some.last.now) nodes c.in-Some.rest.now) (let e = c.in_ok-nodes.ensures in let f = c.new.ensures in cc);
       digits = (node_digits c.in-Some.last.now n.number n.value).0;
     }
-
-pub is_below-requires-text-number : goal.is_below-requires-text-number
-is_below-requires-text-number c = λ _. numeral_text c.loop-last.last.now c.loop-last.invariant.digits
 
 pub is_below-requires-clause-other : goal.is_below-requires-clause-other
 is_below-requires-clause-other c =
