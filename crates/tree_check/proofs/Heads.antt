@@ -19,15 +19,10 @@ use Rattle.gas_model.specs.Within.{IsWithin as Within, is_group_within}
 use Rattle.tree_cert.specs.Tree.{ByGroup, ByArc}
 use Rattle.tree_check.specs.declared.frames.Expected.TheVariants as expected
 use Rattle.tree_check.specs.Undo.{wait_at, AreDecisionsOf, AreStatesOf}
-use Rattle.std.proofs.lemmas.Bool.{and_parts}
+use Rattle.std.proofs.lemmas.Bool.{and_parts, and_from}
 use Rattle.tree_rules.specs.Rules.{PartBox}
 use Rattle.tree_rules.specs.Branches.{Heads, headed, after_head, same_head, is_over, after_branch, decision_heads, state_heads}
 use Rattle.tree_rules.proofs.SameHeads.{heads_are_told_apart}
-
-both : (a b : Bool) → IsTrue a → IsTrue b → IsTrue (a && b)
-both true true s t = refl
-both true false s t = absurd cc
-both false b s t = absurd cc
 
 not_true : (b : Bool) → (b ≡ true → ⊥) → b ≡ false
 not_true true h = absurd (h refl)
@@ -101,7 +96,7 @@ state_filter test kind [] t = t
 state_filter test kind (s ∷ states) t = by (test s) (state_filter test kind states (and_parts (has_state kind s) (list_all (has_state kind) states) t).1)
   where
     by : (b : Bool) → IsTrue (list_all (has_state kind) (filter test states)) → IsTrue (list_all (has_state kind) (cond b (s ∷ filter test states) (filter test states)))
-    by true rest = both (has_state kind s) (list_all (has_state kind) (filter test states)) (and_parts (has_state kind s) (list_all (has_state kind) states) t).0 rest
+    by true rest = and_from (has_state kind s) (list_all (has_state kind) (filter test states)) (and_parts (has_state kind s) (list_all (has_state kind) states) t).0 rest
     by false rest = rest
 
 own_states : (kind : ArcKind) → IsTrue (list_all (has_state kind) (states_of kind))

@@ -1,8 +1,3 @@
-pub mod SideFits
-pub mod OtherRules
-pub mod LawFacts
-pub mod LawSteps
-pub mod NodeFlows
 pub mod CutNodes
 pub mod Undoing
 pub mod Heads

@@ -2,31 +2,15 @@
 ghost use Rattle.std.specs.Prelude.{◌≡◌, ℤ, false, option_map, slice_get, Some, IfSome};
 ghost use Rattle.std.specs.Option.{option_map_or};
 ghost use Rattle.tree_rules.specs.Rules as spec;
-ghost use Rattle.tree_check.specs.ArcSides.{ends_of_sides, var_of_side, law_of_form, IsFormWithin, AreSafeSides, IsSafeAt};
+ghost use Rattle.box_rules.specs.ArcSides.{var_of_side, IsSafeAt};
 ghost use Rattle.element_laws.specs.Sizes.{IsSafe};
 ghost use Rattle.tree_check.specs.Held.{IsBoxAt};
 
-use crate::arc_rules::{ArcSide, ArcSides};
-use crate::forms::{Form, form_of};
 use crate::lookup::arc_at;
 use crate::open_box::OpenBox;
-use crate::rules::{Aim, form_closing, form_step};
-use crate::states::fixed_state;
+use box_rules::{Aim, ArcSide, fixed_form, form_closing, form_step, sides};
 use gas_model::{ArcRow, Problem, Var};
 use tree_cert::Rule;
-
-// The law of an arc in its state, if that is fixed.
-fn fixed_form(p: &Problem, b: &OpenBox, arc: u32, row: &ArcRow) -> Option<Form>
-    requires fits { IsBoxAt p.now b.now }
-    requires row { slice_get p.now.arcs arc ≡ Some row.now }
-    ensures form { option_map law_of_form result ≡ spec.fixed_form p.now b.now.part arc row.now }
-    ensures within { IfSome result (λ form. IsFormWithin (law_of_form form)) }
-{
-    match fixed_state(p, b, arc) {
-        None => None,
-        Some(state) => Some(form_of(&row.kind, state)),
-    }
-}
 
 // Which variable of an arc it is, if it is one.
 fn side_of(arc: u32, row: &ArcRow, var: Var) -> Option<ArcSide>
@@ -47,19 +31,6 @@ fn side_of(arc: u32, row: &ArcRow, var: Var) -> Option<ArcSide>
     }
 }
 
-// The ends of the variables of an arc.
-fn sides(p: &Problem, b: &OpenBox, arc: u32, row: &ArcRow) -> ArcSides
-    requires fits { IsBoxAt p.now b.now }
-    requires row { slice_get p.now.arcs arc ≡ Some row.now }
-    ensures ends { ends_of_sides result ≡ spec.arc_ends b.now.bounds arc row.now }
-    ensures safe { AreSafeSides result }
-{
-    let q = b.ends(Var::Flow(arc));
-    let u = b.ends(Var::Square(row.from));
-    let v = b.ends(Var::Square(row.to));
-    ArcSides { q, u, v }
-}
-
 // Whether by a rule of the law of an arc the end of a variable may become this value.
 fn row_step(
     p: &Problem,
@@ -76,12 +47,12 @@ fn row_step(
     requires value { IsSafe var value }
     ensures { result ≡ spec.row_step p.now b.now rule arc var low value row.now }
 {
-    match fixed_form(p, b, arc, row) {
+    match fixed_form(p, b.part(), arc, row) {
         None => false,
         Some(form) => match side_of(arc, row, var) {
             None => false,
             Some(side) => {
-                let e = sides(p, b, arc, row);
+                let e = sides(p, b.bounds(), arc, row);
                 form_step(&form, rule, b.scale(), e, Aim { side, low, value })
             }
         },
@@ -114,9 +85,9 @@ fn row_closing(p: &Problem, b: &OpenBox, rule: Rule, arc: u32, row: &ArcRow) -> 
     requires row { slice_get p.now.arcs arc ≡ Some row.now }
     ensures { result ≡ spec.row_closing p.now b.now rule arc row.now }
 {
-    match fixed_form(p, b, arc, row) {
+    match fixed_form(p, b.part(), arc, row) {
         None => false,
-        Some(form) => form_closing(&form, rule, b.scale(), sides(p, b, arc, row)),
+        Some(form) => form_closing(&form, rule, b.scale(), sides(p, b.bounds(), arc, row)),
     }
 }
 

@@ -1,18 +1,15 @@
 //! A checker of refutation trees, which reads their lines one after the other and keeps one box.
 #![tactic(auto)]
 
-mod arc_rules;
 mod balance;
 mod branches;
 mod check;
 mod cuts;
-mod forms;
 mod frames;
 mod laws;
 mod lookup;
 mod open_box;
 mod reader;
-mod rules;
 mod stack;
 mod states;
 mod steps;

@@ -50,6 +50,14 @@ impl OpenBox {
         self.bounds.scale()
     }
 
+    /// The ends of all variables, with their scale.
+    pub fn bounds(&self) -> &ScaledBox
+        ensures scale { result.now.scale ≡ self.now.scale }
+        ensures bounds { result.now.bounds ≡ self.now.bounds }
+    {
+        &self.bounds
+    }
+
     /// The picked decisions and the named states.
     pub fn part(&self) -> &PartState
         ensures { result.now ≡ self.now.part }

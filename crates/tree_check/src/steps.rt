@@ -1,7 +1,6 @@
 // The steps that are allowed in a box, and the closings that hold there.
 ghost use Rattle.std.specs.Prelude.{◌≡◌, ◌&&◌};
 ghost use Rattle.gas_model.specs.Boxes.{is_var, is_empty, ends_of, may_become};
-ghost use Rattle.tree_rules.specs.ArcRules.{keeps_sign};
 ghost use Rattle.tree_rules.specs.Rules as spec;
 ghost use Rattle.element_laws.specs.Sizes.{IsSafe, AreSafe};
 ghost use Rattle.tree_check.specs.Held.{IsBoxAt};
@@ -10,6 +9,7 @@ use crate::balance::{balance_closing, balance_step};
 use crate::cuts::cuts;
 use crate::laws::{law_closing, law_step};
 use crate::open_box::OpenBox;
+use box_rules::keeps_sign;
 use gas_model::{Ends, Problem, Var};
 use tree_cert::{Closing, Rule, Step};
 
@@ -32,19 +32,6 @@ fn may_become(var: Var, low: bool, value: i128, ends: Ends) -> bool
         ends.lo < value && value <= ends.hi + 1
     } else {
         ends.lo - 1 <= value && value < ends.hi
-    }
-}
-
-// Whether the value has the sign of its rule.
-fn keeps_sign(rule: Rule, value: i128) -> bool
-    ensures { result ≡ keeps_sign rule value }
-{
-    match rule {
-        Rule::Fall => 0 <= value,
-        Rule::Rise => 0 <= value,
-        Rule::Reach => 0 <= value,
-        Rule::Drop => 0 <= value,
-        _ => true,
     }
 }
 

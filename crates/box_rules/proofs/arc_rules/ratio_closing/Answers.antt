@@ -1,0 +1,13 @@
+use Rattle.std.proofs.Common.{to_z-of_z, rules, refl, FitsSigned}
+use Rattle.std.specs.Int.{w128}
+use Rattle.box_rules.proofs.SideFits.{sides_fit}
+use Rattle.box_rules.proofs.arc_rules.ratio_closing.Goals as goal
+
+pub returns : goal.returns
+returns c =
+    let f = sides_fit c.args.e c.requires.ends in
+    let a : FitsSigned w128 c.ratio_square.result = search rules in
+    let b : FitsSigned w128 c.ratio_square-2.result = search rules in
+    let x = simp (to_z-of_z, c.ranges.num, f.u_hi) at c.ratio_square.ensures in
+    let y = simp (to_z-of_z, c.ranges.den, f.v_lo) at c.ratio_square-2.ensures in
+    simp (to_z-of_z, a, b) (rw (x, y) refl)

@@ -1,0 +1,2 @@
+pub mod ArcSides
+pub mod Balance

@@ -1,0 +1,4 @@
+pub mod Drops
+pub mod ArcFlows
+pub mod AtNode
+pub mod NodeFlows
