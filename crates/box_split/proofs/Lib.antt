@@ -1,0 +1,4 @@
+pub mod Firsts
+pub mod Rounds
+pub mod Others
+pub mod Listed

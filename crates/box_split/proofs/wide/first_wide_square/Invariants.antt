@@ -1,0 +1,7 @@
+use Rattle.std.proofs.Common.{◌≡◌, ◌<◌, ℕ, false}
+use Rattle.gas_model.specs.declared.rows.Var.TheVariants.{Square}
+use Rattle.box_split.specs.Forks.{is_wide}
+use Rattle.box_split.proofs.wide.first_wide_square.Given as goal
+
+abbrev pub invariant-loop-n : goal.invariant-loop-n
+invariant-loop-n g l = (n : ℕ) → n < l.n → is_wide l.b (Square n) ≡ false
