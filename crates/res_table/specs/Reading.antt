@@ -1,0 +1,25 @@
+-- What a reader of records has left, and what a read takes.
+use Rattle.std.specs.Prelude.{◌≡◌, ℕ, List, Bool, true, false, Option, Some, None}
+use Rattle.csv.specs.Machine.{Read}
+use Rattle.csv.specs.Reading.{Ready, default_config, source_of, reader_config, reader_trim, reader_state, is_flexible}
+use Rattle.csv.specs.declared.parser.State.{State}
+use Rattle.csv.specs.declared.reader.Reader.{Reader}
+use Rattle.csv.specs.declared.reader.Trim.TheVariants as trim
+use denote.Bor.{Bor}
+
+abbrev pub Bytes : Type 0
+Bytes = Bor (List ℕ)
+
+-- the reader stands before this text, in this state, and takes records of any length as they are
+pub record Stands (reader : Reader Bytes) (s : State) (text : List ℕ) : Type 0 where
+  pub config : reader_config reader ≡ default_config
+  pub trims : reader_trim reader ≡ trim.None
+  pub flexible : is_flexible reader ≡ true
+  pub ready : Ready reader
+  pub state : reader_state reader ≡ s
+  pub source : source_of (λ (b : Bytes). Some b.now) reader ≡ Some text
+
+-- whether there was a next record, its fields, and where the reader stands after it
+abbrev pub Took : Option Read → Bool → List (List ℕ) → Reader Bytes → Type 0
+Took None found fields reader = found ≡ false
+Took (Some r) found fields reader = (found ≡ true) × (fields ≡ r.0) × Stands reader r.1 r.2
