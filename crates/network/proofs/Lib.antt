@@ -1,0 +1,4 @@
+pub mod Kept
+pub mod PipeLimits
+pub mod Marked
+pub mod TableTurns

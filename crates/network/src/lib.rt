@@ -1,0 +1,19 @@
+//! Joins the rows of a network, a scenario, decisions and a table of resistances to one problem.
+#![tactic(auto)]
+
+mod arcs;
+mod assembly;
+mod books;
+mod decisions;
+mod faults;
+mod limits;
+mod marks;
+mod nodes;
+mod nominations;
+mod table;
+
+pub use assembly::assemble;
+pub use faults::JoinFault;
+
+#[cfg(test)]
+mod tests;
