@@ -10,8 +10,16 @@ use Rattle.setting_text.specs.declared.fault.Key.{Key}
 use Rattle.setting_text.specs.declared.fault.Key.TheVariants as key
 use Rattle.setting_text.specs.declared.fault.SettingFault.{SettingFault}
 use Rattle.setting_text.specs.declared.fault.SettingFault.TheVariants as setting
+use Rattle.tag_outline.specs.declared.fault.FileFault.{FileFault}
+use Rattle.tag_outline.specs.declared.fault.FileFault.TheVariants as file
+use Rattle.tag_outline.specs.declared.fault.OutlineFault.{OutlineFault}
+use Rattle.tag_outline.specs.declared.fault.OutlineFault.TheVariants as outline
+use Rattle.res_table.specs.declared.rows.ResFault.{ResFault}
+use Rattle.res_table.specs.declared.rows.ResFault.TheVariants as res
+use Rattle.network.specs.declared.faults.JoinFault.{JoinFault}
+use Rattle.network.specs.declared.faults.JoinFault.TheVariants as join
 use Rattle.command_core.specs.declared.status.InputFault.{InputFault}
-use Rattle.command_core.specs.declared.status.InputFault.TheVariants.{OfFlat, OfSetting}
+use Rattle.command_core.specs.declared.status.InputFault.TheVariants.{OfFile, OfRes, OfJoin, OfFlat, OfSetting}
 
 abbrev pub many_word : Many → List ℕ
 many_word many.Nodes = codes "nodes"
@@ -50,6 +58,49 @@ setting_text_fault (setting.NotSetting k) = codes "not setting " ++ key_word k
 setting_text_fault (setting.WideNumber k) = codes "wide number " ++ key_word k
 setting_text_fault setting.NoMemory = []
 
+-- why a text is no outline, and at which byte
+abbrev pub outline_text : OutlineFault → List ℕ
+outline_text (outline.NotUtf8 at) = codes "not utf8 at " ++ decimal at
+outline_text (outline.NotOutline at) = codes "not outline at " ++ decimal at
+outline_text (outline.Doctype at) = codes "doctype at " ++ decimal at
+outline_text (outline.Cdata at) = codes "cdata at " ++ decimal at
+outline_text (outline.TooDeep at) = codes "too deep at " ++ decimal at
+outline_text outline.NoMemory = []
+
+-- an offence of an element, and what of it is at fault
+abbrev pub element_text : (words element name : List ℕ) → List ℕ
+element_text words element name = words ++ element ++ codes " " ++ name
+
+abbrev pub file_fault : FileFault → List ℕ
+file_fault (file.Outline e) = outline_text e
+file_fault file.WrongRoot = codes "wrong root"
+file_fault (file.Missing element name) = element_text (codes "missing ") element name
+file_fault (file.BadValue element name) = element_text (codes "bad value ") element name
+file_fault (file.BadUnit element name) = element_text (codes "bad unit ") element name
+file_fault (file.TooLarge element name) = element_text (codes "too large ") element name
+file_fault (file.BadWord element name) = element_text (codes "bad word ") element name
+file_fault (file.UnknownAttribute element name) = element_text (codes "unknown attribute ") element name
+file_fault file.NoMemory = []
+
+abbrev pub table_fault : ResFault → List ℕ
+table_fault (res.BadRow row) = codes "row " ++ decimal row
+table_fault res.NoMemory = []
+
+-- what is wrong with the four files together
+abbrev pub join_text : JoinFault → List ℕ
+join_text (join.NoSuchNode id) = codes "no such node " ++ id
+join_text (join.WrongType id) = codes "wrong type " ++ id
+join_text (join.TwiceNominated id) = codes "twice nominated " ++ id
+join_text (join.NoResistance arc) = codes "no resistance " ++ arc
+join_text (join.NoStation arc) = codes "no station " ++ arc
+join_text (join.TwiceRow row) = codes "twice row " ++ decimal row
+join_text (join.UnusedRow row) = codes "unused row " ++ decimal row
+join_text (join.Model e) = model_text e
+join_text join.NoMemory = []
+
 abbrev pub fault_text : InputFault → List ℕ
+fault_text (OfFile e) = file_fault e
+fault_text (OfRes e) = table_fault e
+fault_text (OfJoin e) = join_text e
 fault_text (OfFlat e) = flat_text_fault e
 fault_text (OfSetting e) = setting_text_fault e

@@ -7,12 +7,17 @@ use Rattle.tree_cert.specs.declared.fault.TreeFault.TheVariants as tree
 use Rattle.command_core.specs.declared.status.NotFault.{NotFault}
 use Rattle.command_core.specs.declared.status.NotFault.TheVariants.{Tree, Left}
 use Rattle.command_core.specs.declared.status.Status.{Status}
-use Rattle.command_core.specs.declared.status.Status.TheVariants.{Accepted, Rejected, Unfinished, Kept, Broken, Passes, NotRefutation, Usage, BadInput, TooLong, ReadFault, NoMemory, WriteFault}
+use Rattle.command_core.specs.declared.status.Status.TheVariants.{Accepted, Rejected, Unfinished, Kept, Broken, Passes, NotRefutation, Written, Usage, BadInput, TooLong, ReadFault, NoMemory, WriteFault}
 use Rattle.command_core.specs.declared.status.InputFile.{InputFile}
-use Rattle.command_core.specs.declared.status.InputFile.TheVariants.{Flat, SettingFile, TreeFile}
+use Rattle.command_core.specs.declared.status.InputFile.TheVariants.{Net, Scn, Cdf, Res, Join, Flat, SettingFile, TreeFile}
 use Rattle.command_core.specs.FaultTexts.{fault_text}
 
 abbrev pub file_word : InputFile → List ℕ
+file_word Net = codes "net"
+file_word Scn = codes "scn"
+file_word Cdf = codes "cdf"
+file_word Res = codes "res"
+file_word Join = codes "join"
 file_word Flat = codes "problem"
 file_word SettingFile = codes "setting"
 file_word TreeFile = codes "tree"
@@ -39,8 +44,8 @@ law_word (laws.PressureBound n) = codes "pressure "
 law_word (laws.Balance n) = codes "balance "
 law_word (laws.Law a) = codes "law "
 
--- without its line feed and without what the command adds to it, as the id of the arc or node whose law is broken; of want
--- of memory and of a write fault nothing is said
+-- without its line feed and without what the command adds to it, as the id of the arc or node whose law is broken, or the
+-- whole line where something was written; of want of memory and of a write fault nothing is said
 abbrev pub line_of : Status → List ℕ
 line_of Accepted = codes "accepted"
 line_of Rejected = codes "rejected"
@@ -49,6 +54,7 @@ line_of Kept = codes "kept"
 line_of (Broken law) = codes "broken " ++ law_word law
 line_of Passes = codes "passes"
 line_of (NotRefutation fault) = codes "not refutation " ++ not_text fault
+line_of Written = []
 line_of (Usage at) = codes "usage word " ++ decimal at
 line_of (BadInput file fault) = codes "bad " ++ file_word file ++ codes " " ++ fault_text fault
 line_of (TooLong file) = codes "too long " ++ file_word file

@@ -2,11 +2,15 @@
 -- memory.
 use Rattle.std.specs.Prelude.{◌≡◌, Bool, true, false, if◌then◌else◌, Option, None, Some, Result, Ok, Err}
 use Rattle.flat_text.specs.declared.fault.FlatFault.TheVariants as flat
+use Rattle.tag_outline.specs.declared.fault.FileFault.TheVariants as file
+use Rattle.tag_outline.specs.declared.fault.OutlineFault.TheVariants as outline
+use Rattle.res_table.specs.declared.rows.ResFault.TheVariants as res
+use Rattle.network.specs.declared.faults.JoinFault.TheVariants as join
 use Rattle.gas_model.specs.declared.rows.ModelFault.TheVariants as model
 use Rattle.setting_text.specs.declared.fault.SettingFault.TheVariants as setting
 use Rattle.tree_cert.specs.declared.fault.TreeFault.TheVariants as tree
 use Rattle.command_core.specs.declared.status.InputFault.{InputFault}
-use Rattle.command_core.specs.declared.status.InputFault.TheVariants.{OfFlat, OfSetting}
+use Rattle.command_core.specs.declared.status.InputFault.TheVariants.{OfFile, OfRes, OfJoin, OfFlat, OfSetting}
 use Rattle.command_core.specs.declared.status.InputFile.{InputFile}
 use Rattle.command_core.specs.declared.status.NotFault.TheVariants.{Tree}
 use Rattle.command_core.specs.declared.status.Status.{Status}
@@ -53,18 +57,28 @@ IsFault s = ⊥
 abbrev pub MakesFile : Status → Type 0
 MakesFile status.Accepted = Unit {0}
 MakesFile status.Rejected = Unit {0}
+MakesFile status.Written = Unit {0}
 MakesFile s = ⊥
 
 -- a status with which no file is made: an answer of another kind, or a refusal
 abbrev pub MakesNoFile : Status → Type 0
 MakesNoFile status.Accepted = ⊥
 MakesNoFile status.Rejected = ⊥
+MakesNoFile status.Written = ⊥
 MakesNoFile status.NoMemory = ⊥
 MakesNoFile status.WriteFault = ⊥
 MakesNoFile s = Unit {0}
 
 -- whether an input file stands for nothing only since memory ran out
 abbrev pub is_want : InputFault → Bool
+is_want (OfFile file.NoMemory) = true
+is_want (OfFile (file.Outline outline.NoMemory)) = true
+is_want (OfFile fault) = false
+is_want (OfRes res.NoMemory) = true
+is_want (OfRes fault) = false
+is_want (OfJoin join.NoMemory) = true
+is_want (OfJoin (join.Model model.NoMemory)) = true
+is_want (OfJoin fault) = false
 is_want (OfFlat flat.NoMemory) = true
 is_want (OfFlat (flat.Model model.NoMemory)) = true
 is_want (OfFlat fault) = false

@@ -1,8 +1,8 @@
 // How a command is concluded: its OUTs written, and its line said.
 ghost use Rattle.std.specs.Prelude.{◌≡◌, ◌++◌, ◌∷◌, [], true, false, length, OnOk, OnErr, IsErrOf};
-ghost use Rattle.gas_desk.specs.Outside.{CountsOn, Rose, SameBut, SameFiles, SameMarksBut, SameReads, SameWrites};
+ghost use Rattle.gas_desk.specs.Outside.{CountsOn, Rose, SameBut, SameFiles, SameMarks, SameMarksBut, SameReads, SameWrites};
 ghost use Rattle.command_core.specs.Lines.{line_of};
-ghost use Rattle.command_core.specs.Meanings.{Concluded, IsPart, IsWritten, Puts, Speaks, fault_in, fault_status, has_text, names};
+ghost use Rattle.command_core.specs.Meanings.{Concluded, IsPart, IsWritten, Puts, Says, Speaks, fault_in, fault_status, has_text, names};
 
 use crate::line::line_of;
 use crate::{Command, Status, Stop};
@@ -10,18 +10,44 @@ use gas_desk::{Desk, DeskStop, WriteStop, write_file};
 use gas_model::{Bytes, NoMemory};
 use std::alloc::Global;
 
+// Says the line of a status.
+fn say_line<D: Desk>(
+    alloc: Global,
+    desk: &mut D,
+    status: &Status,
+    note: &[u8],
+) -> Result<(), DeskStop>
+    ensures said { D.tells → OnOk result (Says (line_of status.now ++ note.now) (D.outside desk.old) (D.outside desk.new)) }
+    ensures unsaid { D.tells → OnErr result ((D.outside desk.new).said ≡ (D.outside desk.old).said) }
+    ensures cause { IsErrOf result DeskStop.Failed → Rose (D.outside desk.old).write_faults (D.outside desk.new).write_faults }
+    ensures writing { (D.outside desk.new).writing ≡ (D.outside desk.old).writing }
+    ensures files { D.tells → SameFiles (D.outside desk.old) (D.outside desk.new) }
+    ensures marks { D.tells → SameMarks (D.outside desk.old) (D.outside desk.new) }
+    ensures unread { D.counts_exactly → SameReads (D.outside desk.old) (D.outside desk.new) }
+    ensures unwritten { D.counts_exactly → (IsErrOf result DeskStop.Failed → ⊥) → SameWrites (D.outside desk.old) (D.outside desk.new) }
+    ensures counts { CountsOn (D.outside desk.old) (D.outside desk.new) }
+{
+    match line_of(alloc, status, note) {
+        Ok(line) => desk.say(line.as_slice()),
+        Err(NoMemory) => Err(DeskStop::NoMemory),
+    }
+}
+
+// This status in the place of another one.
+fn instead(_status: Status, other: Status) -> Status
+    ensures { result ≡ other }
+{
+    other
+}
+
 // Says the line of a status, and answers it, or the status that says why the line isn't said.
 pub fn speak<D: Desk>(alloc: Global, desk: &mut D, status: Status, note: &[u8]) -> Status
     ensures { Speaks D.tells D.counts_exactly (line_of status ++ note.now) status (D.outside desk.old) (D.outside desk.new) result }
 {
-    let line = match line_of(alloc, &status, note) {
-        Ok(line) => line,
-        Err(NoMemory) => return Status::NoMemory,
-    };
-    match desk.say(line.as_slice()) {
+    match say_line(alloc, desk, &status, note) {
         Ok(()) => status,
-        Err(DeskStop::Failed) => Status::WriteFault,
-        Err(DeskStop::NoMemory) => Status::NoMemory,
+        Err(DeskStop::Failed) => instead(status, Status::WriteFault),
+        Err(DeskStop::NoMemory) => instead(status, Status::NoMemory),
     }
 }
 

@@ -1,12 +1,15 @@
 // What is wrong with an input file, as the program says it.
 ghost use Rattle.std.specs.Prelude.{◌≡◌, ◌++◌, OnOk};
-ghost use Rattle.command_core.specs.FaultTexts.{many_word, key_word, model_text, flat_text_fault, setting_text_fault, fault_text};
+ghost use Rattle.command_core.specs.FaultTexts.{element_text, fault_text, file_fault, flat_text_fault, join_text, key_word, many_word, model_text, outline_text, setting_text_fault, table_fault};
 
 use crate::InputFault;
 use crate::words::{put_both, put_numbered};
 use flat_text::FlatFault;
 use gas_model::{Bytes, Many, ModelFault, Name, NoMemory};
+use network::JoinFault;
+use res_table::ResFault;
 use setting_text::{Key, SettingFault};
+use tag_outline::{FileFault, OutlineFault};
 
 fn many_word(what: Many) -> &'static [u8]
     ensures { result.now ≡ many_word what }
@@ -79,10 +82,81 @@ fn put_setting(line: &mut Bytes, fault: &SettingFault) -> Result<(), NoMemory>
     }
 }
 
+// Why a text is no outline.
+fn put_outline(line: &mut Bytes, fault: &OutlineFault) -> Result<(), NoMemory>
+    ensures { OnOk result (line.new ≡ line.old ++ outline_text fault.now) }
+{
+    match fault {
+        OutlineFault::NotUtf8 { at } => put_numbered(line, b"not utf8 at ", *at),
+        OutlineFault::NotOutline { at } => put_numbered(line, b"not outline at ", *at),
+        OutlineFault::Doctype { at } => put_numbered(line, b"doctype at ", *at),
+        OutlineFault::Cdata { at } => put_numbered(line, b"cdata at ", *at),
+        OutlineFault::TooDeep { at } => put_numbered(line, b"too deep at ", *at),
+        OutlineFault::NoMemory => Ok(()),
+    }
+}
+
+// Words, then the element, then what of it is at fault.
+fn put_element(line: &mut Bytes, words: &[u8], element: &Name, name: &Name) -> Result<(), NoMemory>
+    ensures { OnOk result (line.new ≡ line.old ++ element_text words.now element.now name.now) }
+{
+    put_named(line, words, element)?;
+    put_named(line, b" ", name)
+}
+
+// What is wrong with a file of elements.
+fn put_file(line: &mut Bytes, fault: &FileFault) -> Result<(), NoMemory>
+    ensures { OnOk result (line.new ≡ line.old ++ file_fault fault.now) }
+{
+    match fault {
+        FileFault::Outline(fault) => put_outline(line, fault),
+        FileFault::WrongRoot => line.append(b"wrong root"),
+        FileFault::Missing { element, name } => put_element(line, b"missing ", element, name),
+        FileFault::BadValue { element, name } => put_element(line, b"bad value ", element, name),
+        FileFault::BadUnit { element, name } => put_element(line, b"bad unit ", element, name),
+        FileFault::TooLarge { element, name } => put_element(line, b"too large ", element, name),
+        FileFault::BadWord { element, name } => put_element(line, b"bad word ", element, name),
+        FileFault::UnknownAttribute { element, name } => {
+            put_element(line, b"unknown attribute ", element, name)
+        }
+        FileFault::NoMemory => Ok(()),
+    }
+}
+
+// What is wrong with a table of resistances.
+fn put_table(line: &mut Bytes, fault: &ResFault) -> Result<(), NoMemory>
+    ensures { OnOk result (line.new ≡ line.old ++ table_fault fault.now) }
+{
+    match fault {
+        ResFault::BadRow { row } => put_numbered(line, b"row ", *row),
+        ResFault::NoMemory => Ok(()),
+    }
+}
+
+// What is wrong with four files together.
+fn put_join(line: &mut Bytes, fault: &JoinFault) -> Result<(), NoMemory>
+    ensures { OnOk result (line.new ≡ line.old ++ join_text fault.now) }
+{
+    match fault {
+        JoinFault::NoSuchNode { id } => put_named(line, b"no such node ", id),
+        JoinFault::WrongType { id } => put_named(line, b"wrong type ", id),
+        JoinFault::TwiceNominated { id } => put_named(line, b"twice nominated ", id),
+        JoinFault::NoResistance { arc } => put_named(line, b"no resistance ", arc),
+        JoinFault::NoStation { arc } => put_named(line, b"no station ", arc),
+        JoinFault::TwiceRow { row } => put_numbered(line, b"twice row ", *row),
+        JoinFault::UnusedRow { row } => put_numbered(line, b"unused row ", *row),
+        JoinFault::Model(fault) => put_model(line, fault),
+        JoinFault::NoMemory => Ok(()),
+    }
+}
+
 pub fn put_fault(line: &mut Bytes, fault: &InputFault) -> Result<(), NoMemory>
     ensures { OnOk result (line.new ≡ line.old ++ fault_text fault.now) }
 {
     match fault {
+        InputFault::OfFile(fault) => put_file(line, fault),
+        InputFault::OfRes(fault) => put_table(line, fault),
+        InputFault::OfJoin(fault) => put_join(line, fault),
         InputFault::OfFlat(fault) => put_flat(line, fault),
         InputFault::OfSetting(fault) => put_setting(line, fault),
     }

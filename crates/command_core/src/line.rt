@@ -15,6 +15,11 @@ fn file_word(file: InputFile) -> &'static [u8]
     ensures { result.now ≡ file_word file }
 {
     match file {
+        InputFile::Net => b"net",
+        InputFile::Scn => b"scn",
+        InputFile::Cdf => b"cdf",
+        InputFile::Res => b"res",
+        InputFile::Join => b"join",
         InputFile::Flat => b"problem",
         InputFile::SettingFile => b"setting",
         InputFile::TreeFile => b"tree",
@@ -92,7 +97,7 @@ fn put_line(line: &mut Bytes, status: &Status) -> Result<(), NoMemory>
         Status::BadInput { file, fault } => put_bad_input(line, *file, fault),
         Status::TooLong { file } => put_both(line, b"too long ", file_word(*file)),
         Status::ReadFault => line.append(b"read fault"),
-        Status::NoMemory | Status::WriteFault => Ok(()),
+        Status::Written | Status::NoMemory | Status::WriteFault => Ok(()),
     }
 }
 

@@ -7,12 +7,25 @@ ghost use Rattle.command_core.specs.declared.status.Stop.{Stop};
 use element_laws::Broken;
 use flat_text::FlatFault;
 use gas_model::{ModelFault, NoMemory};
+use network::JoinFault;
+use res_table::ResFault;
 use setting_text::SettingFault;
+use tag_outline::{FileFault, OutlineFault};
 use tree_cert::TreeFault;
 
 /// An input file of a command.
 #[derive(Clone, Copy, Debug, PartialEq, Eq)]
 pub enum InputFile {
+    /// The network file.
+    Net,
+    /// The scenario file.
+    Scn,
+    /// The decision file.
+    Cdf,
+    /// The table of resistances.
+    Res,
+    /// No file of its own: what the four before it make together.
+    Join,
     /// The flat problem.
     Flat,
     /// The setting.
@@ -24,6 +37,9 @@ pub enum InputFile {
 /// Why an input file stands for nothing. In a status or a stop none of these is want of memory.
 #[derive(Debug, Drop)]
 pub enum InputFault {
+    OfFile(FileFault),
+    OfRes(ResFault),
+    OfJoin(JoinFault),
     OfFlat(FlatFault),
     OfSetting(SettingFault),
 }
@@ -35,7 +51,10 @@ impl InputFault {
     {
         matches!(
             self,
-            InputFault::OfFlat(FlatFault::NoMemory | FlatFault::Model(ModelFault::NoMemory))
+            InputFault::OfFile(FileFault::NoMemory | FileFault::Outline(OutlineFault::NoMemory))
+                | InputFault::OfRes(ResFault::NoMemory)
+                | InputFault::OfJoin(JoinFault::NoMemory | JoinFault::Model(ModelFault::NoMemory))
+                | InputFault::OfFlat(FlatFault::NoMemory | FlatFault::Model(ModelFault::NoMemory))
                 | InputFault::OfSetting(SettingFault::NoMemory)
         )
     }
@@ -67,6 +86,8 @@ pub enum Status {
     Passes,
     /// The text is no refutation of the problem.
     NotRefutation(NotFault),
+    /// OUT holds what the command was asked to write.
+    Written,
     /// The words aren't in plain form: no plain words begin as these do up to the word of this number, from 0.
     Usage { at: u64 },
     /// The first input file that stands for nothing, and why.
@@ -87,7 +108,7 @@ impl Status {
         ensures { result ≡ exit_of self.now }
     {
         match self {
-            Status::Accepted | Status::Kept | Status::Passes => 0,
+            Status::Accepted | Status::Kept | Status::Passes | Status::Written => 0,
             Status::Rejected => 1,
             Status::Unfinished => 2,
             Status::Broken(_) | Status::NotRefutation(_) => 3,

@@ -5,6 +5,7 @@ use Rattle.std.specs.Prelude.{Ok, Some, codes}
 use Rattle.gas_model.specs.declared.rows.Setting.{Setting}
 use Rattle.gas_model.specs.Rows.{Network}
 use Rattle.gas_model.specs.Near.{IsNear}
+use Rattle.flat_text.specs.Spelling.{flat_text}
 use Rattle.gas_desk.specs.Outside.{Outside}
 use Rattle.element_laws.specs.declared.broken.Broken.{Broken}
 use Rattle.command_core.specs.declared.status.NotFault.{NotFault}
@@ -16,11 +17,11 @@ use Rattle.command_core.specs.Meanings.{Answered, AllWritten, Distinct, Says, Te
 use Rattle.nomval.specs.Check.{IsNoRefutation, PassesIt}
 use Rattle.nomval.specs.Commands.{meaning}
 use Rattle.nomval.specs.Named.{id_of}
-use Rattle.nomval.specs.Headline.{Writes, HasCarried, HasRefuted, LeavesOpen, Replayed, IsKept, IsBroken, Checked, HasPassed, HasNotPassed}
+use Rattle.nomval.specs.Headline.{Writes, HasCarried, HasRefuted, HasWritten, LeavesOpen, Replayed, IsKept, IsBroken, Checked, HasPassed, HasNotPassed}
 use Rattle.nomval.specs.Replay.{BreaksFirst, setting_is}
 use Rattle.nomval.specs.Solve.{Carries, Refutes}
 use Rattle.nomval.specs.Sources.{Origin, problem_is}
-use Rattle.nomval.specs.Plain.{Words, Plain, solve, replay, check, plain}
+use Rattle.nomval.specs.Plain.{Words, Plain, solve, replay, check, flatten, plain}
 
 -- a line with this beside it
 line_with : (line beside note : List ℕ) (before now : Outside) → note ≡ beside → Says (line ++ note) before now → Says (line ++ beside) before now
@@ -108,6 +109,23 @@ open_at words (solve origin out tol) before now e own a = let w = a.answers.says
   said = line_alone (codes "unfinished") a.note before now w.no_note a.said;
 }
 open_at words c before now e own a = absurd own
+
+pub written_at : (words : Words) (c : Plain) (before now : Outside) → plain words ≡ Ok c
+    → (meaning c).may ends.Written → Answered (meaning c) before now ends.Written → HasWritten words before now
+written_at words (flatten origin out) before now e own a =
+    let w = a.answers.says in
+    let all : AllWritten (out ∷ []) (Some (flat_text a.answers.problem) ∷ []) before now = subst (λ (x : Texts). AllWritten (out ∷ []) x before now) w.one (a.held (tt, tt)) in
+    record {
+      origin = origin;
+      out = out;
+      problem = a.answers.problem;
+      is_plain = e;
+      stands_for = a.answers.stands_for;
+      holds = all.0.0;
+      finished = all.0.1;
+      said = line_with [] (codes "written") a.note before now w.noted a.said;
+    }
+written_at words c before now e own a = absurd own
 
 pub kept_at : (words : Words) (c : Plain) (before now : Outside) → plain words ≡ Ok c
     → (meaning c).may ends.Kept → Answered (meaning c) before now ends.Kept → IsKept words before now

@@ -1,5 +1,5 @@
 -- The tree that closes the opening box by an empty variable passes the checker.
-use Rattle.std.proofs.Common.{◌≡◌, ◌&&◌, ℕ, ◌<◌, Bool, true, List, length, refl, ap, sym, ◌∙◌, arith, pos, int_lt}
+use Rattle.std.proofs.Common.{◌≡◌, ◌&&◌, ℕ, ◌<◌, true, List, refl, ap, sym, ◌∙◌, arith, pos}
 use Rattle.std.specs.Prelude.{IsTrue, nat_lt}
 use Rattle.std.proofs.lemmas.List.{length-map}
 use Rattle.gas_model.specs.declared.rows.Var.{Var}

@@ -12,12 +12,12 @@ use Rattle.command_core.specs.declared.status.Status.TheVariants as ends
 use Rattle.command_core.specs.Gates.{found, all_fine, bad, long, AnyRose, RoseInOrder}
 use Rattle.command_core.specs.Lines.{line_of}
 use Rattle.command_core.specs.Stops.{HoldsNoWant, IsAnswer, IsRefusal, IsFault, MakesFile, MakesNoFile}
-use Rattle.command_core.specs.Meanings.{Meaning, Concluded, Speaks, spoken, no_memory, unsaid, Answered, Refused, Part, Says, SameButOuts, Excused, Due}
+use Rattle.command_core.specs.Meanings.{Concluded, Speaks, spoken, no_memory, unsaid, Answered, Refused, Part, Says, SameButOuts, Excused, Due}
 use Rattle.command_core.proofs.Conclusions as conclusions
 use Rattle.nomval.specs.Commands.{Ran, carried, misused, meaning, ForCommand, OnCommand}
-use Rattle.nomval.specs.Headline.{HasCarried, HasRefuted, LeavesOpen, IsKept, IsBroken, HasPassed, HasNotPassed}
+use Rattle.nomval.specs.Headline.{HasCarried, HasRefuted, HasWritten, LeavesOpen, IsKept, IsBroken, HasPassed, HasNotPassed}
 use Rattle.nomval.specs.Plain.{Words, Plain, IsPlace, plain}
-use Rattle.nomval.proofs.Answering.{carried_at, refuted_at, open_at, kept_at, broken_at, passed_at, not_passed_at}
+use Rattle.nomval.proofs.Answering.{carried_at, refuted_at, open_at, written_at, kept_at, broken_at, passed_at, not_passed_at}
 use Rattle.nomval.proofs.Places.{place_of}
 
 not_both : (s : Status) → IsAnswer s → IsRefusal s → ⊥
@@ -72,6 +72,9 @@ module _ (tells exact : Type 0) (words : Words) (before now : Outside) (status :
 
   pub unfinished : tells → status ≡ ends.Unfinished → LeavesOpen words before now
   unfinished t e = let f = as_of ends.Unfinished e tt in open_at words f.0 before now f.1 (f.2.may tt) (conclusions.answered_of (meaning f.0) before now ends.Unfinished tt (f.2.case t))
+
+  pub written : tells → status ≡ ends.Written → HasWritten words before now
+  written t e = let f = as_of ends.Written e tt in written_at words f.0 before now f.1 (f.2.may tt) (conclusions.answered_of (meaning f.0) before now ends.Written tt (f.2.case t))
 
   pub kept : tells → status ≡ ends.Kept → IsKept words before now
   kept t e = let f = as_of ends.Kept e tt in kept_at words f.0 before now f.1 (f.2.may tt) (conclusions.answered_of (meaning f.0) before now ends.Kept tt (f.2.case t))

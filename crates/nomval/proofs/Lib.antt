@@ -4,6 +4,8 @@ pub mod FirstStates
 pub mod Findings
 pub mod RefutedText
 pub mod Parsed
+pub mod Joining
+pub mod Flattening
 pub mod Solving
 pub mod Replaying
 pub mod Checking

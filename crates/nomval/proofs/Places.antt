@@ -5,8 +5,8 @@ use Rattle.std.specs.Str.{bytes_eq}
 use Rattle.line_text.specs.Numerals.{natural}
 use Rattle.nomval.specs.declared.words.Choice.{Choice}
 use Rattle.nomval.specs.declared.words.Choice.TheVariants.{Tol}
-use Rattle.nomval.specs.Sources.{Origin, flat}
-use Rattle.nomval.specs.Plain.{Words, Options, Plain, solve, replay, check, ◌>>=◌, is_file_word, file_at, no_more, option_in, give, options_at, none_given, tolerance_of, flat_source, flat_then, solve_words, replay_words, check_words, plain, BeginPlain, IsPlace}
+use Rattle.nomval.specs.Sources.{Origin, flat, joined}
+use Rattle.nomval.specs.Plain.{Words, Options, Plain, solve, replay, check, flatten, ◌>>=◌, is_file_word, file_at, no_more, option_in, give, options_at, none_given, tolerance_of, groups_file, flat_then, joined_then, solve_words, replay_words, check_words, flatten_words, plain, IsPlace}
 
 abbrev err : (X : Type 0) → ℕ → Result X ℕ
 err X n = Err n
@@ -295,6 +295,10 @@ check_stops : (n : ℕ) (origin : Origin) → Stops n (check_words n origin)
 check_stops n origin = file_stops n (λ tree ws. no_more (n + 1) ws >>= λ end. Ok (check origin tree))
     (λ tree. map_stops (n + 1) (no_more (n + 1)) (λ end. check origin tree) (end_stops (n + 1)))
 
+flatten_stops : (n : ℕ) (origin : Origin) → Stops n (flatten_words n origin)
+flatten_stops n origin = file_stops n (λ out ws. no_more (n + 1) ws >>= λ end. Ok (flatten origin out))
+    (λ out. map_stops (n + 1) (no_more (n + 1)) (λ end. flatten origin out) (end_stops (n + 1)))
+
 -- from word 1 on, with a flat problem
 flat_stops : (next : ℕ → Origin → Words → Result Plain ℕ) → ((origin : Origin) → Stops 2 (next 2 origin)) → Stops 1 (flat_then next)
 flat_stops next s = same_stops 1 (flat_then next) (λ ws. file_at 1 ws >>= λ x. next 2 (flat x.0) x.1) (λ ws. by (file_at 1 ws))
@@ -304,17 +308,83 @@ flat_stops next s = same_stops 1 (flat_then next) (λ ws. file_at 1 ws >>= λ x.
     by (Ok x) = refl
     by (Err n) = refl
 
+-- from word 1 on, with four files
+abbrev four_files : (net scn cdf res : List ℕ) → Origin
+four_files net scn cdf res = joined (record { net = net; scn = scn; cdf = groups_file cdf; res = res })
+
+abbrev with_four : (net scn cdf res : List ℕ) → Words → Result (Origin × Words) ℕ
+with_four net scn cdf res words = Ok (four_files net scn cdf res, words)
+
+abbrev Cut : Type 0
+Cut = Result (List ℕ × Words) ℕ
+
+module _ (next : ℕ → Origin → Words → Result Plain ℕ) (s : (origin : Origin) → Stops 5 (next 5 origin)) where
+  abbrev after_res : (net scn cdf : List ℕ) → Words → Result Plain ℕ
+  after_res net scn cdf ws = file_at 4 ws >>= λ x. next 5 (four_files net scn cdf x.0) x.1
+
+  abbrev after_cdf : (net scn : List ℕ) → Words → Result Plain ℕ
+  after_cdf net scn ws = file_at 3 ws >>= λ x. after_res net scn x.0 x.1
+
+  abbrev after_scn : (net : List ℕ) → Words → Result Plain ℕ
+  after_scn net ws = file_at 2 ws >>= λ x. after_cdf net x.0 x.1
+
+  abbrev after_net : Words → Result Plain ℕ
+  after_net ws = file_at 1 ws >>= λ x. after_scn x.0 x.1
+
+  res_alike : (net scn cdf : List ℕ) (r : Cut) → ((r >>= λ res. with_four net scn cdf res.0 res.1) >>= λ begun. next 5 begun.0 begun.1) ≡ (r >>= λ x. next 5 (four_files net scn cdf x.0) x.1)
+  res_alike net scn cdf (Ok x) = refl
+  res_alike net scn cdf (Err n) = refl
+
+  cdf_alike : (net scn : List ℕ) (r : Cut) → ((r >>= λ cdf. file_at 4 cdf.1 >>= λ res. with_four net scn cdf.0 res.0 res.1) >>= λ begun. next 5 begun.0 begun.1) ≡ (r >>= λ x. after_res net scn x.0 x.1)
+  cdf_alike net scn (Ok x) = res_alike net scn x.0 (file_at 4 x.1)
+  cdf_alike net scn (Err n) = refl
+
+  scn_alike : (net : List ℕ) (r : Cut) → ((r >>= λ scn. file_at 3 scn.1 >>= λ cdf. file_at 4 cdf.1 >>= λ res. with_four net scn.0 cdf.0 res.0 res.1) >>= λ begun. next 5 begun.0 begun.1) ≡ (r >>= λ x. after_cdf net x.0 x.1)
+  scn_alike net (Ok x) = cdf_alike net x.0 (file_at 3 x.1)
+  scn_alike net (Err n) = refl
+
+  net_alike : (r : Cut) → ((r >>= λ net. file_at 2 net.1 >>= λ scn. file_at 3 scn.1 >>= λ cdf. file_at 4 cdf.1 >>= λ res. with_four net.0 scn.0 cdf.0 res.0 res.1) >>= λ begun. next 5 begun.0 begun.1) ≡ (r >>= λ x. after_scn x.0 x.1)
+  net_alike (Ok x) = scn_alike x.0 (file_at 2 x.1)
+  net_alike (Err n) = refl
+
+  joined_stops : Stops 1 (joined_then next)
+  joined_stops = same_stops 1 (joined_then next) after_net (λ ws. net_alike (file_at 1 ws))
+      (file_stops 1 after_scn (λ net. file_stops 2 (after_cdf net) (λ scn. file_stops 3 (after_res net scn) (λ cdf. file_stops 4 (λ res. next 5 (four_files net scn cdf res)) (λ res. s (four_files net scn cdf res))))))
+
 -- a command by its name, or another
 choice : (b : Bool) (f g : Words → Result Plain ℕ) → Stops 1 f → Stops 1 g ⊎ ((ws : Words) → g ws ≡ Err 0) → Stops 1 (λ ws. cond b (f ws) (g ws)) ⊎ ((ws : Words) → cond b (f ws) (g ws) ≡ Err 0)
 choice true f g s others = inl s
 choice false f g s others = others
 
+-- the commands, from the last one back
+abbrev from_flat : List ℕ → Words → Result Plain ℕ
+from_flat word ws = cond (bytes_eq word (codes "flat")) (joined_then flatten_words ws) (Err 0)
+
+abbrev from_check : List ℕ → Words → Result Plain ℕ
+from_check word ws = cond (bytes_eq word (codes "check")) (joined_then check_words ws) (from_flat word ws)
+
+abbrev from_replay : List ℕ → Words → Result Plain ℕ
+from_replay word ws = cond (bytes_eq word (codes "replay")) (joined_then replay_words ws) (from_check word ws)
+
+abbrev from_solve : List ℕ → Words → Result Plain ℕ
+from_solve word ws = cond (bytes_eq word (codes "solve")) (joined_then solve_words ws) (from_replay word ws)
+
+abbrev from_check_flat : List ℕ → Words → Result Plain ℕ
+from_check_flat word ws = cond (bytes_eq word (codes "check-flat")) (flat_then check_words ws) (from_solve word ws)
+
+abbrev from_replay_flat : List ℕ → Words → Result Plain ℕ
+from_replay_flat word ws = cond (bytes_eq word (codes "replay-flat")) (flat_then replay_words ws) (from_check_flat word ws)
+
 command_stops : (word : List ℕ) → Stops 1 (λ ws. plain (word ∷ ws)) ⊎ ((ws : Words) → plain (word ∷ ws) ≡ Err 0)
 command_stops word =
-    choice (bytes_eq word (codes "solve-flat")) (flat_then solve_words) (λ ws. cond (bytes_eq word (codes "replay-flat")) (flat_then replay_words ws) (cond (bytes_eq word (codes "check-flat")) (flat_then check_words ws) (Err 0))) (flat_stops solve_words (solve_stops 2))
-    (choice (bytes_eq word (codes "replay-flat")) (flat_then replay_words) (λ ws. cond (bytes_eq word (codes "check-flat")) (flat_then check_words ws) (Err 0)) (flat_stops replay_words (replay_stops 2))
-    (choice (bytes_eq word (codes "check-flat")) (flat_then check_words) (λ ws. Err 0) (flat_stops check_words (check_stops 2))
-    (inr (λ ws. refl))))
+    choice (bytes_eq word (codes "solve-flat")) (flat_then solve_words) (from_replay_flat word) (flat_stops solve_words (solve_stops 2))
+    (choice (bytes_eq word (codes "replay-flat")) (flat_then replay_words) (from_check_flat word) (flat_stops replay_words (replay_stops 2))
+    (choice (bytes_eq word (codes "check-flat")) (flat_then check_words) (from_solve word) (flat_stops check_words (check_stops 2))
+    (choice (bytes_eq word (codes "solve")) (joined_then solve_words) (from_replay word) (joined_stops solve_words (solve_stops 5))
+    (choice (bytes_eq word (codes "replay")) (joined_then replay_words) (from_check word) (joined_stops replay_words (replay_stops 5))
+    (choice (bytes_eq word (codes "check")) (joined_then check_words) (from_flat word) (joined_stops check_words (check_stops 5))
+    (choice (bytes_eq word (codes "flat")) (joined_then flatten_words) (λ ws. Err 0) (joined_stops flatten_words (flatten_stops 5))
+    (inr (λ ws. refl))))))))
 
 -- some words are plain
 plain_words : Words

@@ -16,7 +16,7 @@ use Rattle.command_core.specs.declared.status.InputFile.TheVariants.{SettingFile
 use Rattle.command_core.specs.declared.status.Stop.{Stop}
 use Rattle.command_core.specs.Gates.{Files, Reads, file_is, gate_of, standing, stands}
 use Rattle.command_core.specs.Meanings.{Does, Texts, has_text}
-use Rattle.command_core.specs.Stops.{HoldsNoWant, IsAnswer, MakesFile, MakesNoFile}
+use Rattle.command_core.specs.Stops.{HoldsNoWant, IsAnswer, MakesFile}
 use Rattle.nomval.specs.Named.{id_of}
 use Rattle.command_core.proofs.Parsing.{gate_alike}
 use Rattle.command_core.proofs.Walks.{reads_then, same_files}

@@ -1,9 +1,9 @@
 -- The zero setting fits its problem.
-use Rattle.std.proofs.Common.{◌≡◌, ◌==◌, ◌&&◌, not, ℕ, zero, suc, ◌/◌, ◌<◌, ◌≤◌, negsuc, Bool, true, false, List, [], ◌∷◌, length, map, Some, refl, ap, ◌∙◌, arith, ℤ, pos, ◌+ℤ◌, ◌*ℤ◌, w64, FitsSigned, ◌≤ℤ◌, int_le, add-one, ◌+◌}
+use Rattle.std.proofs.Common.{◌≡◌, ◌==◌, ◌&&◌, not, ℕ, zero, suc, ◌/◌, ◌<◌, ◌≤◌, negsuc, true, false, List, [], ◌∷◌, length, map, Some, refl, ap, ◌∙◌, arith, ℤ, pos, ◌+ℤ◌, ◌*ℤ◌, w64, FitsSigned, ◌≤ℤ◌, int_le, add-one, ◌+◌}
 use Rattle.std.specs.Prelude.{slice_get, replicate, int_div}
 use Rattle.std.specs.List.{list_all}
 use Rattle.std.proofs.lemmas.List.{length-map, length-replicate}
-use Rattle.std.proofs.lemmas.Bool.{le-leb}
+use Rattle.std.proofs.lemmas.Bool.{le-leb, and_parts}
 use Rattle.std.proofs.lemmas.Int.{fits_signed_from_abs, quot_fits}
 use Rattle.gas_model.specs.declared.rows.NodeRow.{NodeRow}
 use Rattle.gas_model.specs.declared.rows.ArcRow.{ArcRow}
@@ -19,10 +19,6 @@ use Rattle.nomval.specs.Zero.{middle_square, first_picks, first_states_from, zer
 use Rattle.integer_laws.proofs.Ring.{linear, le_true, square_le, square_nonneg}
 use Rattle.integer_laws.proofs.SizeLemmas.{between_within}
 
-both_true : (a b : Bool) → (a && b) ≡ true → (a ≡ true) × (b ≡ true)
-both_true true b h = (refl, h)
-both_true false b h = absurd cc
-
 -- the pressures of a node aren't negative, and at most 10^8 Pa
 pub record ArePressures (node : NodeRow) : Type 0 where
   pub low : pos 0 ≤ℤ node.p_min
@@ -32,15 +28,15 @@ pub record ArePressures (node : NodeRow) : Type 0 where
 
 in_between : (l x h : ℤ) → between l x h ≡ true → (l ≤ℤ x) × (x ≤ℤ h)
 in_between l x h e =
-    let p = both_true (int_le l x) (int_le x h) e in
+    let p = and_parts (int_le l x) (int_le x h) e in
     (omega (arith, linear, p.0), omega (arith, linear, p.1))
 
 pub pressures : (node : NodeRow) → is_node_within node ≡ true → ArePressures node
 pressures node e =
-    let a = both_true _ (is_flow node.b_max) e in
-    let b = both_true _ (is_flow node.b_min) a.0 in
-    let c = both_true (is_id node.id && is_pressure node.p_min) (is_pressure node.p_max) b.0 in
-    let d = both_true (is_id node.id) (is_pressure node.p_min) c.0 in
+    let a = and_parts _ (is_flow node.b_max) e in
+    let b = and_parts _ (is_flow node.b_min) a.0 in
+    let c = and_parts (is_id node.id && is_pressure node.p_min) (is_pressure node.p_max) b.0 in
+    let d = and_parts (is_id node.id) (is_pressure node.p_min) c.0 in
     let low = in_between (pos 0) node.p_min (pos 100000000) d.1 in
     let high = in_between (pos 0) node.p_max (pos 100000000) c.1 in
     record { low = low.0; low_most = low.1; high = high.0; high_most = high.1 }
@@ -132,7 +128,7 @@ has_first arcs g h = by g.decisions refl
   where
     by : (ds : List Decision) → g.decisions ≡ ds → 0 < length ds
     by [] e =
-        let some : not (length g.decisions == 0) ≡ true = (both_true (is_id g.id) _ (both_true _ _ (both_true _ _ h).0).0).1 in
+        let some : not (length g.decisions == 0) ≡ true = (and_parts (is_id g.id) _ (and_parts _ _ (and_parts _ _ h).0).0).1 in
         absurd (let same : not (length g.decisions == 0) ≡ false = ap (λ l. not (length l == 0)) e in cc)
     by (d ∷ ds) e = omega arith
 

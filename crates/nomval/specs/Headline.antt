@@ -4,6 +4,7 @@ use Rattle.gas_model.specs.declared.rows.Setting.{Setting}
 use Rattle.gas_model.specs.Rows.{Network}
 use Rattle.gas_model.specs.Near.{IsNear}
 use Rattle.gas_desk.specs.Outside.{Outside}
+use Rattle.flat_text.specs.Spelling.{flat_text}
 use Rattle.element_laws.specs.declared.broken.Broken.{Broken}
 use Rattle.command_core.specs.declared.status.NotFault.{NotFault}
 use Rattle.command_core.specs.Gates.{stands, file_is, any_bytes}
@@ -11,7 +12,7 @@ use Rattle.command_core.specs.Lines.{law_word, not_text}
 use Rattle.command_core.specs.Meanings.{Says}
 use Rattle.nomval.specs.Check.{IsNoRefutation, PassesIt}
 use Rattle.nomval.specs.Named.{id_of}
-use Rattle.nomval.specs.Plain.{Words, solve, replay, check, plain}
+use Rattle.nomval.specs.Plain.{Words, solve, replay, check, flatten, plain}
 use Rattle.nomval.specs.Replay.{BreaksFirst, setting_is}
 use Rattle.nomval.specs.Solve.{Carries, Refutes, IsOpen}
 use Rattle.nomval.specs.Sources.{Origin, problem_is}
@@ -48,6 +49,17 @@ pub record LeavesOpen (words : Words) (before now : Outside) : Type 0 where
   pub stands_for : problem_is origin before.files ≡ stands problem
   pub is_open : IsOpen tol problem
   pub said : Says (codes "unfinished") before now
+
+-- the words ask for the flat text of a problem, and OUT holds it, finished
+pub record HasWritten (words : Words) (before now : Outside) : Type 0 where
+  pub origin : Origin
+  pub out : List ℕ
+  pub problem : Network
+  pub is_plain : plain words ≡ Ok (flatten origin out)
+  pub stands_for : problem_is origin before.files ≡ stands problem
+  pub holds : now.files out ≡ Some (flat_text problem)
+  pub finished : now.finished out ≡ true
+  pub said : Says (codes "written") before now
 
 -- the words ask to replay a setting of a problem, of which this holds within the tolerance, and this line was said
 pub record Replayed (Holds : ℕ → Network → Setting → Type 0) (line : Network → List ℕ) (words : Words) (before now : Outside) : Type 0 where

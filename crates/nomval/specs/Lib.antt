@@ -5,6 +5,7 @@ pub mod Sources
 pub mod Solve
 pub mod Replay
 pub mod Check
+pub mod Flatten
 pub mod Plain
 pub mod Commands
 pub mod Headline

@@ -8,7 +8,7 @@ use Rattle.nomval.specs.declared.asking.Request.TheVariants as request
 use Rattle.nomval.specs.declared.words.Choice.{Choice}
 use Rattle.nomval.specs.declared.words.Choice.TheVariants.{Tol}
 use Rattle.nomval.specs.declared.words.Given.{Given}
-use Rattle.nomval.specs.Sources.{Origin, flat, origin_of}
+use Rattle.nomval.specs.Sources.{Origin, flat, joined, origin_of}
 use Rattle.nomval.specs.Tolerances.{default_tolerance, most_tolerance}
 
 -- words, as texts
@@ -18,19 +18,22 @@ Words = List (List ℕ)
 abbrev pub texts : List (Bor (List ℕ)) → Words
 texts words = map (λ word. word.now) words
 
--- a command with the files that it names, and how far, in Pa^2, a law may be off
+-- a command with the files that it names, and how far, in Pa^2, a law may be off; a problem is PROBLEM, or NET SCN CDF RES
 pub data Plain : Type 0 where
-  -- `solve-flat PROBLEM OUT [--tol n]`
+  -- `solve-flat PROBLEM OUT [--tol n]`, `solve NET SCN CDF RES OUT [--tol n]`
   solve : Origin → (out : List ℕ) (tol : ℕ) → Plain
-  -- `replay-flat PROBLEM SETTING [--tol n]`
+  -- `replay-flat PROBLEM SETTING [--tol n]`, `replay NET SCN CDF RES SETTING [--tol n]`
   replay : Origin → (setting : List ℕ) (tol : ℕ) → Plain
-  -- `check-flat PROBLEM TREE`
+  -- `check-flat PROBLEM TREE`, `check NET SCN CDF RES TREE`
   check : Origin → (tree : List ℕ) → Plain
+  -- `flat NET SCN CDF RES OUT`
+  flatten : Origin → (out : List ℕ) → Plain
 
 abbrev pub plain_of : Request → Plain
 plain_of (request.Solve asked) = solve (origin_of asked.source) asked.out.now asked.tol.value
 plain_of (request.Replay asked) = replay (origin_of asked.source) asked.setting.now asked.tol.value
 plain_of (request.Check asked) = check (origin_of asked.source) asked.tree.now
+plain_of (request.Flatten asked) = flatten (origin_of asked.source) asked.out.now
 
 -- what comes after the first words, or the place where those leave the form
 infixl 10 ◌>>=◌
@@ -94,6 +97,19 @@ flat_source words = do
   file ← file_at 1 words
   Ok (flat file.0, file.1)
 
+-- the decision file that a word names; `none` says that there is none
+abbrev pub groups_file : List ℕ → Option (List ℕ)
+groups_file word = if bytes_eq word (codes "none") then None else Some word
+
+-- the four files of a problem, from word 1 on, and the words after them, from word 5 on
+abbrev pub joined_source : Words → Result (Origin × Words) ℕ
+joined_source words = do
+  net ← file_at 1 words
+  scn ← file_at 2 net.1
+  cdf ← file_at 3 scn.1
+  res ← file_at 4 cdf.1
+  Ok (joined (record { net = net.0; scn = scn.0; cdf = groups_file cdf.0; res = res.0 }), res.1)
+
 -- what comes after the problem: OUT and the options
 abbrev pub solve_words : ℕ → Origin → Words → Result Plain ℕ
 solve_words n origin words = do
@@ -115,11 +131,24 @@ check_words n origin words = do
   end ← no_more (n + 1) tree.1
   Ok (check origin tree.0)
 
+-- OUT alone
+abbrev pub flatten_words : ℕ → Origin → Words → Result Plain ℕ
+flatten_words n origin words = do
+  out ← file_at n words
+  end ← no_more (n + 1) out.1
+  Ok (flatten origin out.0)
+
 -- the words of a command after its name, where the problem is a flat file
 abbrev pub flat_then : (ℕ → Origin → Words → Result Plain ℕ) → Words → Result Plain ℕ
 flat_then next words = do
   begun ← flat_source words
   next 2 begun.0 begun.1
+
+-- where it is four files
+abbrev pub joined_then : (ℕ → Origin → Words → Result Plain ℕ) → Words → Result Plain ℕ
+joined_then next words = do
+  begun ← joined_source words
+  next 5 begun.0 begun.1
 
 -- the command that the words are, or the number of the first word up to which no plain words begin so
 abbrev pub plain : Words → Result Plain ℕ
@@ -128,6 +157,10 @@ plain (command ∷ words) =
     if bytes_eq command (codes "solve-flat") then flat_then solve_words words
     else if bytes_eq command (codes "replay-flat") then flat_then replay_words words
     else if bytes_eq command (codes "check-flat") then flat_then check_words words
+    else if bytes_eq command (codes "solve") then joined_then solve_words words
+    else if bytes_eq command (codes "replay") then joined_then replay_words words
+    else if bytes_eq command (codes "check") then joined_then check_words words
+    else if bytes_eq command (codes "flat") then joined_then flatten_words words
     else Err 0
 
 -- plain words begin with these

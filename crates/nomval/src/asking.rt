@@ -1,15 +1,16 @@
 // The command that the words of the command line ask for.
 ghost use Rattle.std.specs.Prelude.{◌≡◌, ◌<◌, ◌^◌, ℕ};
 ghost use Rattle.std.specs.Result.{result_map_both};
-ghost use Rattle.nomval.specs.Plain.{check_words, plain, plain_of, replay_words, solve_words, texts};
+ghost use Rattle.nomval.specs.Plain.{check_words, flatten_words, plain, plain_of, replay_words, solve_words, texts};
 ghost use Rattle.nomval.specs.Sources.{origin_of};
 ghost use Rattle.nomval.specs.declared.asking.Request.TheVariants as request;
 
 use crate::check::Check;
+use crate::flatten::Flatten;
 use crate::replay::Replay;
 use crate::solve::Solve;
 use crate::source::Source;
-use crate::words::{Given, file_at, flat_source, no_more, options_at};
+use crate::words::{Given, file_at, flat_source, joined_source, no_more, options_at};
 
 /// A command, with its words.
 #[derive(Clone, Copy, Debug)]
@@ -17,6 +18,7 @@ pub enum Request<'a> {
     Solve(Solve<'a>),
     Replay(Replay<'a>),
     Check(Check<'a>),
+    Flatten(Flatten<'a>),
 }
 
 // Before any option.
@@ -60,6 +62,16 @@ fn check_words<'a>(at: u64, source: Source<'a>, words: &[&'a str]) -> Result<Che
     Ok(Check { source, tree })
 }
 
+// OUT alone.
+fn flatten_words<'a>(at: u64, source: Source<'a>, words: &[&'a str]) -> Result<Flatten<'a>, u64>
+    requires { at < 2 ^ 32 }
+    ensures { result_map_both (λ s. plain_of (request.Flatten s)) (λ e. e) result ≡ flatten_words at (origin_of source.entry) (texts words.entry.now) }
+{
+    let (out, rest) = file_at(at, words)?;
+    no_more(at + 1, rest)?;
+    Ok(Flatten { source, out })
+}
+
 /// The command that the words are, or the place where the words leave the plain form.
 pub fn read_words<'a>(words: &[&'a str]) -> Result<Request<'a>, u64>
     ensures { result_map_both plain_of (λ at. at) result ≡ plain (texts words.entry.now) }
@@ -70,18 +82,31 @@ pub fn read_words<'a>(words: &[&'a str]) -> Result<Request<'a>, u64>
     match *command {
         "solve-flat" => {
             let (source, rest) = flat_source(rest)?;
-            let asked = solve_words(2, source, rest)?;
-            Ok(Request::Solve(asked))
+            Ok(Request::Solve(solve_words(2, source, rest)?))
         }
         "replay-flat" => {
             let (source, rest) = flat_source(rest)?;
-            let asked = replay_words(2, source, rest)?;
-            Ok(Request::Replay(asked))
+            Ok(Request::Replay(replay_words(2, source, rest)?))
         }
         "check-flat" => {
             let (source, rest) = flat_source(rest)?;
-            let asked = check_words(2, source, rest)?;
-            Ok(Request::Check(asked))
+            Ok(Request::Check(check_words(2, source, rest)?))
+        }
+        "solve" => {
+            let (source, rest) = joined_source(rest)?;
+            Ok(Request::Solve(solve_words(5, source, rest)?))
+        }
+        "replay" => {
+            let (source, rest) = joined_source(rest)?;
+            Ok(Request::Replay(replay_words(5, source, rest)?))
+        }
+        "check" => {
+            let (source, rest) = joined_source(rest)?;
+            Ok(Request::Check(check_words(5, source, rest)?))
+        }
+        "flat" => {
+            let (source, rest) = joined_source(rest)?;
+            Ok(Request::Flatten(flatten_words(5, source, rest)?))
         }
         _ => Err(0),
     }

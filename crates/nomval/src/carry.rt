@@ -17,6 +17,7 @@ fn execute<D: Desk>(alloc: Global, desk: &mut D, request: &Request<'_>) -> Statu
         Request::Solve(solve) => conclude(alloc, desk, solve),
         Request::Replay(replay) => conclude(alloc, desk, replay),
         Request::Check(check) => conclude(alloc, desk, check),
+        Request::Flatten(flatten) => conclude(alloc, desk, flatten),
     }
 }
 

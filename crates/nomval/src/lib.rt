@@ -5,6 +5,8 @@ mod answer;
 mod asking;
 mod carry;
 mod check;
+mod flatten;
+mod four;
 mod program;
 mod replay;
 mod solve;

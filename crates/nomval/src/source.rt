@@ -5,6 +5,7 @@ ghost use Rattle.command_core.specs.Stops.{stop_in};
 ghost use Rattle.command_core.specs.declared.status.InputFile.TheVariants.{Flat};
 ghost use Rattle.nomval.specs.Sources.{flat_problem, origin_of, problem_gates, problem_is};
 
+use crate::four::Four;
 use command_core::{InputFault, InputFile, Stop, read_input, refuse};
 use flat_text::read_flat;
 use gas_desk::Desk;
@@ -16,6 +17,8 @@ use std::alloc::Global;
 pub enum Source<'a> {
     /// A flat problem.
     Flat(&'a str),
+    /// Four files, which are joined.
+    Joined(Four<'a>),
 }
 
 // The problem that the bytes of a flat text stand for.
@@ -45,6 +48,7 @@ impl<'a> Source<'a> {
     {
         match self {
             Source::Flat(name) => read_flat_file(alloc, desk, name),
+            Source::Joined(four) => four.read(alloc, desk),
         }
     }
 }

@@ -1,10 +1,11 @@
 // The words of a command: files and options.
-ghost use Rattle.std.specs.Prelude.{◌≡◌, ◌+◌, ◌<◌, ◌^◌, ℕ, length};
+ghost use Rattle.std.specs.Prelude.{◌≡◌, ◌+◌, ◌<◌, ◌^◌, ℕ, length, option_map};
 ghost use Rattle.std.specs.Result.{result_map_both};
 ghost use Rattle.line_text.specs.Numerals.{natural};
-ghost use Rattle.nomval.specs.Plain.{file_at, flat_source, give, is_file_word, no_more, option_in, options_at, options_of, texts, tolerance_in, tolerance_of};
+ghost use Rattle.nomval.specs.Plain.{file_at, flat_source, give, groups_file, is_file_word, joined_source, no_more, option_in, options_at, options_of, texts, tolerance_in, tolerance_of};
 ghost use Rattle.nomval.specs.Sources.{origin_of};
 
+use crate::four::Four;
 use crate::source::Source;
 use crate::tolerance::Tolerance;
 use line_text::size_at;
@@ -66,6 +67,30 @@ pub fn flat_source<'a, 'b>(words: &'b [&'a str]) -> Result<(Source<'a>, &'b [&'a
 {
     let (file, rest) = file_at(1, words)?;
     Ok((Source::Flat(file), rest))
+}
+
+// The decision file that a word names; `none` says that there is none.
+fn groups_file(word: &str) -> Option<&str>
+    ensures { option_map (λ name. name.now) result ≡ groups_file word.now }
+{
+    if word == "none" { None } else { Some(word) }
+}
+
+/// The four files of a problem, from word 1 on, and the words after them, from word 5 on.
+pub fn joined_source<'a, 'b>(words: &'b [&'a str]) -> Result<(Source<'a>, &'b [&'a str]), u64>
+    ensures { result_map_both (λ x. (origin_of x.0, texts x.1.now)) (λ e. e) result ≡ joined_source (texts words.entry.now) }
+{
+    let (net, rest) = file_at(1, words)?;
+    let (scn, rest) = file_at(2, rest)?;
+    let (cdf, rest) = file_at(3, rest)?;
+    let (res, rest) = file_at(4, rest)?;
+    let four = Four {
+        net,
+        scn,
+        cdf: groups_file(cdf),
+        res,
+    };
+    Ok((Source::Joined(four), rest))
 }
 
 // The tolerance that the word at this place is.

@@ -7,7 +7,7 @@ use std::alloc::Global;
 use std::process::ExitCode;
 
 // The words of each run. The words after the command name files, up to an option.
-const RUNS: [&[&str]; 13] = [
+const RUNS: [&[&str]; 15] = [
     &["solve-flat", "one_node.flat", "out.json"],
     &["solve-flat", "two_nodes.flat", "out.json"],
     &["solve-flat", "no_pressure.flat", "out.tree"],
@@ -55,6 +55,22 @@ const RUNS: [&[&str]; 13] = [
         "station_at_seven.flat",
         "station_at_seven.tree",
     ],
+    &[
+        "flat",
+        "network.net",
+        "scenario.scn",
+        "decisions.cdf",
+        "resistances.csv",
+        "joined.flat",
+    ],
+    &[
+        "replay",
+        "network.net",
+        "scenario.scn",
+        "decisions.cdf",
+        "resistances.csv",
+        "small_network.json",
+    ],
 ];
 
 // The most bytes of an example.
@@ -74,7 +90,10 @@ fn show<D: Desk>(alloc: Global, desk: &mut D, name: &str) -> bool {
 fn show_run<D: Desk>(alloc: Global, desk: &mut D, words: &[&str]) -> bool {
     let status = run(alloc, words, desk);
     let mut shown = status.exit() < 64;
-    for name in words.iter().skip(1).take(2) {
+    for name in words.iter().skip(1) {
+        if name.starts_with("--") {
+            break;
+        }
         shown = show(alloc, desk, name) && shown;
     }
     shown

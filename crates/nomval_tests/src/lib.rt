@@ -8,6 +8,8 @@ mod desks;
 #[cfg(test)]
 mod faults;
 #[cfg(test)]
+mod joining;
+#[cfg(test)]
 mod replaying;
 #[cfg(test)]
 mod solving;

@@ -5,9 +5,11 @@ use std::test::Fail;
 #[test]
 fn other_words_are_refused_where_they_leave_the_form(rt: HostRuntime) -> Result<(), Fail> {
     let alloc = rt.alloc();
-    let cases: [(&[&str], &str); 11] = [
+    let cases: [(&[&str], &str); 13] = [
         (&[], "usage word 0\n"),
-        (&["solve"], "usage word 0\n"),
+        (&["solve"], "usage word 1\n"),
+        (&["flat", "n", "s", "none", "r"], "usage word 5\n"),
+        (&["check", "n", "s", "-c", "r", "t"], "usage word 3\n"),
         (&["solve-flat", "-p", "o"], "usage word 1\n"),
         (&["solve-flat", "p"], "usage word 2\n"),
         (&["replay-flat", "p", ""], "usage word 2\n"),

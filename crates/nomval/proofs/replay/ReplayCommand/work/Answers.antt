@@ -1,10 +1,16 @@
 use Rattle.std.proofs.Common.{[], ◌∷◌, ◌++◌}
 use Rattle.std.proofs.lemmas.Result.{err_from_is_err_and}
-use Rattle.command_core.proofs.Walks.{reads_want}
+use Rattle.command_core.proofs.Walks.{reads_stop, reads_want}
 use Rattle.nomval.specs.Replay.{setting_gate}
 use Rattle.nomval.specs.Sources.{origin_of, problem_gates}
 use Rattle.nomval.proofs.Replaying.{replays_does, setting_before, setting_reads}
 use Rattle.nomval.proofs.replay.ReplayCommand.work.Goals as goal
+
+pub returns-in_err-problem-clause-reads : goal.returns-in_err-problem-clause-reads
+returns-in_err-problem-clause-reads g c =
+    let self = c.args.self.now in
+    let p = err_from_is_err_and c.from_residual.result c.from_residual.ensures.1 in
+    rw (p.1, p.2) (reads_stop g.D.Desk.tells g.D.Desk.counts_exactly (problem_gates (origin_of self.source)) (setting_gate (origin_of self.source) self.setting.now ∷ []) (g.D.Desk.outside c.args.desk.now) (g.D.Desk.outside c.read.new.desk) _ c.in_err-problem.ensures.reads)
 
 pub returns-in_err-setting-clause-reads : goal.returns-in_err-setting-clause-reads
 returns-in_err-setting-clause-reads g c =
