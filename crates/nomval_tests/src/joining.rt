@@ -11,14 +11,25 @@ const NETWORK: &str = "<network><nodes><innode id=\"a\"/></nodes><connections/><
 // No nomination.
 const SCENARIO: &str = "<boundaryValue><scenario/></boundaryValue>";
 
+// One file more.
+fn put(
+    files: &mut List<(Name, Bytes)>,
+    alloc: Global,
+    name: &str,
+    text: &str,
+) -> Result<(), NoMemory> {
+    let mut bytes = Bytes::new(alloc);
+    bytes.append(text.as_bytes())?;
+    files.push((Name::of(alloc, name)?, bytes))
+}
+
 // A desk with the network, and with this scenario, decision file and table.
 fn four_files(alloc: Global, scn: &str, cdf: &str, res: &str) -> Result<MemDesk, NoMemory> {
     let mut files = List::new(alloc);
-    for (name, text) in [("n", NETWORK), ("s", scn), ("c", cdf), ("r", res)] {
-        let mut bytes = Bytes::new(alloc);
-        bytes.append(text.as_bytes())?;
-        files.push((Name::of(alloc, name)?, bytes))?;
-    }
+    put(&mut files, alloc, "n", NETWORK)?;
+    put(&mut files, alloc, "s", scn)?;
+    put(&mut files, alloc, "c", cdf)?;
+    put(&mut files, alloc, "r", res)?;
     desk_with(alloc, files, &[])
 }
 
