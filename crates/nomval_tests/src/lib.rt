@@ -14,4 +14,6 @@ mod replaying;
 #[cfg(test)]
 mod solving;
 #[cfg(test)]
+mod tightest;
+#[cfg(test)]
 mod wording;
