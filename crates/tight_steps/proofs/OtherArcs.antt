@@ -34,7 +34,7 @@ same_ends b (Square i) (Flow a) low C n = refl
 same_ends b (Square i) (Square m) low C n = get_or-set_other b.squares m i (with_end low C (ends_of b (Square m))) no_ends (λ e. n (ap Square e))
 
 -- ---- which variables of an arc are mentioned
-squares_alike : (form : LawForm) → form_mentions form OfFrom ≡ form_mentions form OfTo
+pub squares_alike : (form : LawForm) → form_mentions form OfFrom ≡ form_mentions form OfTo
 squares_alike (drags law) = refl
 squares_alike equals = refl
 squares_alike shuts = refl
