@@ -1,0 +1,16 @@
+pub mod Nets
+pub mod Settled
+pub mod Picks
+pub mod Laid
+pub mod Unique
+pub mod SizeFacts
+pub mod HullFacts
+pub mod ChosenFacts
+pub mod ChordFacts
+pub mod RootFacts
+pub mod ShapeFacts
+pub mod NumberFacts
+pub mod Given
+pub mod ChoiceFacts
+pub mod Composed
+pub mod OnlyOne

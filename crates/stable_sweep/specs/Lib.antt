@@ -1,0 +1,8 @@
+pub mod Components
+pub mod Supplies
+pub mod Quiet
+pub mod Runs
+pub mod Waiting
+pub mod Widths
+pub mod Settling
+pub mod Paths

@@ -1,0 +1,11 @@
+pub mod Path
+pub mod Rows
+pub mod Shown
+pub mod Rules
+pub mod Order
+pub mod Places
+pub mod Lines
+pub mod Nodes
+pub mod Calls
+pub mod Laws
+pub mod Walks
