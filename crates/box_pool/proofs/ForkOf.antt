@@ -1,0 +1,79 @@
+-- The group, the arc or the variable of a fork is one of the problem.
+use Rattle.std.proofs.Common.{◌≡◌, ℕ, zero, suc, ◌+◌, ◌-◌, ◌<◌, ◌≤◌, Bool, true, false, List, length, refl, sym, ap, subst, ◌∙◌, ◌⊎◌, inl, inr, arith, IsTrue}
+use Rattle.std.specs.Prelude.{Option, Some, None, is_none, if◌then◌else◌, nat_lt}
+use Rattle.std.proofs.lemmas.Bool.Decides.{nat_tests}
+use Rattle.gas_model.specs.declared.rows.PartState.{PartState}
+use Rattle.gas_model.specs.declared.rows.Var.{Var}
+use Rattle.gas_model.specs.declared.rows.Var.TheVariants.{Flow, Square}
+use Rattle.gas_model.specs.Rows.{Network}
+use Rattle.gas_model.specs.Rulings.{pick_in}
+use Rattle.gas_model.specs.Boxes.{Bounds, BoxFits, is_var, is_in_box, ends_of}
+use Rattle.gas_model.specs.Within.{IsWithin}
+use Rattle.topo.specs.Shapes.{Layout, IsShapeOf}
+use Rattle.topo.specs.States.{fixed_at}
+use Rattle.box_split.specs.declared.forks.Fork.{Fork}
+use Rattle.box_split.specs.declared.forks.Fork.TheVariants.{Group, Free, Halve, Least}
+use Rattle.box_split.specs.Forks.{first, or_else, if_none, is_wide, is_other, at_turn, halved, after, round, start, fork_of, AreVars}
+use Rattle.box_split.proofs.Listed.{split_vars}
+use Rattle.box_split.proofs.Rounds.{begins_within}
+use Rattle.box_pool.specs.Forks.{IsForkOf}
+
+-- what is found passes, and lies below the count
+found_by : (t : ℕ → Bool) (n k : ℕ) → ((i : ℕ) → first t n ≡ Some i → (i < n) × (t i ≡ true)) → (o : Option ℕ) (b : Bool) → first t n ≡ o → t n ≡ b → or_else o (if b then Some n else None) ≡ Some k → (k < suc n) × (t k ≡ true)
+found_by t n k rest (Some i) b e is h =
+    let same : Some i ≡ Some k = h in
+    let z = rest k (e ∙ same) in
+    ((let a = z.0 in omega arith), z.1)
+found_by t n k rest None true e is h =
+    let c : n ≡ k = (let a : Some n ≡ Some k = h in cc) in
+    (omega arith, subst (λ (i : ℕ). t i ≡ true) c is)
+found_by t n k rest None false e is h = absurd (let a : None ≡ Some k = h in cc)
+
+pub found : (t : ℕ → Bool) (n k : ℕ) → first t n ≡ Some k → (k < n) × (t k ≡ true)
+found t zero k h = absurd cc
+found t (suc n) k h = found_by t n k (λ i e. found t n i e) (first t n) (t n) refl refl h
+
+pub round_within : (n from k : ℕ) → from < n → k < n → round n from k < n
+round_within n from k f h = grind (arith, nat_tests)
+
+same_vars : (p : Network) (b : Bounds) → BoxFits p b → (v : Var) → IsTrue (is_in_box b v) → IsTrue (is_var p v)
+same_vars p b fits (Flow a) h = let e = fits.flows in rw (← e) h
+same_vars p b fits (Square n) h = let e = fits.squares in rw (← e) h
+
+pub below : (a n : ℕ) → a < n → IsTrue (nat_lt a n)
+below a n h = grind (arith, nat_tests)
+
+module _ (p : Network) (part : PartState) (s : Layout) (b : Bounds) (within : IsWithin p) (shape : IsShapeOf p part s) (fits : BoxFits p b) (turn : ℕ) where
+  split_var : (k : ℕ) → k < length s.split_list → IsTrue (is_var p (at_turn s.split_list turn k))
+  split_var k h =
+      let f = begins_within (length s.split_list) turn k h in
+      same_vars p b fits (at_turn s.split_list turn k) (split_vars p part s b within shape fits (round (length s.split_list) (start (length s.split_list) turn) k) (round_within (length s.split_list) (start (length s.split_list) turn) k f h))
+
+  by_square : (o : Option ℕ) → ((n : ℕ) → o ≡ Some n → n < length p.nodes) → IsForkOf p (if_none o (λ n. halved b (Square n) turn) Least)
+  by_square None h = tt
+  by_square (Some n) h = below n (length p.nodes) (h n refl)
+
+  by_flow : (o : Option ℕ) → ((a : ℕ) → o ≡ Some a → a < length p.arcs) → (rest : Fork) → IsForkOf p rest → IsForkOf p (if_none o (λ a. halved b (Flow a) turn) rest)
+  by_flow None h rest is = is
+  by_flow (Some a) h rest is = below a (length p.arcs) (h a refl)
+
+  by_split : (o : Option ℕ) → ((k : ℕ) → o ≡ Some k → k < length s.split_list) → (rest : Fork) → IsForkOf p rest
+      → IsForkOf p (if_none o (λ k. halved b (at_turn s.split_list turn k) (after (length s.split_list) (round (length s.split_list) (start (length s.split_list) turn) k))) rest)
+  by_split None h rest is = is
+  by_split (Some k) h rest is = split_var k (h k refl)
+
+  by_arc : (o : Option ℕ) → ((a : ℕ) → o ≡ Some a → a < length p.arcs) → (rest : Fork) → IsForkOf p rest → IsForkOf p (if_none o Free rest)
+  by_arc None h rest is = is
+  by_arc (Some a) h rest is = h a refl
+
+  by_group : (o : Option ℕ) → ((k : ℕ) → o ≡ Some k → k < length p.groups) → (rest : Fork) → IsForkOf p rest → IsForkOf p (if_none o Group rest)
+  by_group None h rest is = is
+  by_group (Some k) h rest is = h k refl
+
+  pub fork_is_of : IsForkOf p (fork_of p s.split_list part b turn)
+  fork_is_of =
+      by_group (first (λ k. is_none (pick_in part.picks k)) (length p.groups)) (λ k e. (found (λ k. is_none (pick_in part.picks k)) (length p.groups) k e).0) _
+      (by_arc (first (λ a. is_none (fixed_at p part a)) (length p.arcs)) (λ k e. (found (λ a. is_none (fixed_at p part a)) (length p.arcs) k e).0) _
+      (by_split (first (λ k. is_wide b (at_turn s.split_list turn k)) (length s.split_list)) (λ k e. (found (λ k. is_wide b (at_turn s.split_list turn k)) (length s.split_list) k e).0) _
+      (by_flow (first (λ a. is_other s.split_list b (Flow a)) (length p.arcs)) (λ k e. (found (λ a. is_other s.split_list b (Flow a)) (length p.arcs) k e).0) _
+      (by_square (first (λ n. is_other s.split_list b (Square n)) (length p.nodes)) (λ k e. (found (λ n. is_other s.split_list b (Square n)) (length p.nodes) k e).0)))))

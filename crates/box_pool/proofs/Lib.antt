@@ -1,0 +1,6 @@
+pub mod Decisions
+pub mod Pooled
+pub mod ForkOf
+pub mod ForkKids
+pub mod Forked
+pub mod StillFits

@@ -1,0 +1,118 @@
+-- Pools of which each box can be made, and the views of their boxes.
+use Rattle.std.proofs.Common.{◌≡◌, ◌≢◌, ℕ, zero, suc, ◌+◌, ◌<◌, List, [], ◌∷◌, ◌++◌, length, Option, Some, None, refl, sym, ap, subst, ◌∙◌, ◌⊎◌, inl, inr, arith, length-set, pos}
+use Rattle.std.specs.Prelude.{slice_get, slice_set, replicate}
+use Rattle.std.proofs.lemmas.List.{length-map}
+use Rattle.gas_model.specs.Rows.{Network}
+use Rattle.gas_model.specs.Within.{IsWithin}
+use Rattle.gas_model.specs.Boxes.{Bounds, BoxFits, opening, flow_ends, square_ends}
+use Rattle.gas_model.specs.declared.rows.Var.TheVariants.{Flow, Square}
+use Rattle.gas_model.specs.declared.rows.PartState.{PartState}
+use Rattle.gas_model.specs.Choices.{PartFits, fresh_part}
+use Rattle.tree_cert.specs.declared.line.Step.{Step}
+use Rattle.tree_cert.specs.declared.line.Head.{Head}
+use Rattle.tree_cert.specs.declared.line.Head.TheVariants.{Take, State, Half}
+use Rattle.tree_pool.proofs.Lists.{appended_cases}
+use Rattle.box_split.specs.declared.forks.Fork.{Fork}
+use Rattle.box_split.specs.declared.forks.Fork.TheVariants.{Least}
+use Rattle.box_split.specs.Forks.{fork_of}
+use Rattle.box_pool.specs.declared.pool.WorkEnd.TheVariants.{Split}
+use Rattle.box_pool.specs.declared.choice.Choice.{Choice}
+use Rattle.box_pool.specs.declared.forks.Children.{Children}
+use Rattle.box_pool.specs.declared.spot.BoxView.{BoxView}
+use Rattle.box_pool.specs.Grid.{pool_scale}
+use Rattle.box_pool.specs.Forks.{heads_of, next_of, HasFork}
+use Rattle.box_pool.specs.Origins.{Origin, origin_by, part_by, bounds_by, CanPick, IsOrigin, IsViewOf}
+use Rattle.box_pool.specs.Pools.{Boxed, IsNew, PoolFits, Looks, ViewFits, IsGiven, base_of, new_origins}
+use Rattle.box_pool.proofs.ForkKids.{from_map, set_cases}
+use Rattle.box_pool.proofs.Forked.{forks_are_expected}
+
+-- ---- a new pool
+
+nothing_at : {X : Type 0} (n k : ℕ) (x : X) → slice_get (replicate {A = Option X} n None) k ≡ Some (Some x) → ⊥
+nothing_at zero k x e = absurd cc
+nothing_at (suc n) zero x e = absurd cc
+nothing_at (suc n) (suc k) x e = nothing_at n k x e
+
+as_many : {X : Type 0} (n : ℕ) (x : X) → length (replicate n x) ≡ n
+as_many zero x = refl
+as_many (suc n) x = ap suc (as_many n x)
+
+pub fresh_fits : (p : Network) → PartFits p (fresh_part p)
+fresh_fits p = record {
+  picks = as_many (length p.groups) None;
+  states = as_many (length p.arcs) None;
+  within = λ k g j e s. absurd (nothing_at (length p.groups) k j s);
+  kinds = λ a row state e s. absurd (nothing_at (length p.arcs) a state s);
+}
+
+pub opening_fits : (p : Network) → BoxFits p (opening pool_scale p)
+opening_fits p = record { flows = length-map p.arcs (flow_ends pool_scale); squares = length-map p.nodes (square_ends pool_scale) }
+
+alone : (o q : Origin) (n : ℕ) → slice_get (Some o ∷ []) n ≡ Some (Some q) → o ≡ q
+alone o q zero h = cc
+alone o q (suc n) h = absurd cc
+
+pub new_fits : (p : Network) (part : PartState) (b : Bounds) (pool : Boxed) → PartFits p part → BoxFits p b → IsNew p part b pool → PoolFits p pool
+new_fits p part b pool part_fits box_fits is n o here =
+    let root : Origin = record { part = part; shape = is.shape; bounds = b; next = 0; head = None } in
+    let origins : pool.origins ≡ Some root ∷ [] = is.origins in
+    subst (IsOrigin p) (alone root o n (rw origins at here)) (record { part = part_fits; shape = is.is_shape; bounds = box_fits; picks = tt; halves = tt })
+
+pub same_fits : (p : Network) (old new : Boxed) → new.origins ≡ old.origins → PoolFits p old → PoolFits p new
+same_fits p old new same fits n o here = fits n o (rw same at here)
+
+-- ---- views
+
+bounds_fit : (p : Network) (b : Bounds) (h : Option Head) → BoxFits p b → BoxFits p (bounds_by b h)
+bounds_fit p b None fits = fits
+bounds_fit p b (Some (Take k j)) fits = fits
+bounds_fit p b (Some (State a s)) fits = fits
+bounds_fit p b (Some (Half (Flow a) low C)) fits = record { flows = length-set _ _ _ ∙ fits.flows; squares = fits.squares }
+bounds_fit p b (Some (Half (Square n) low C)) fits = record { flows = fits.flows; squares = length-set _ _ _ ∙ fits.squares }
+
+part_fits : (p : Network) (part : PartState) (h : Option Head) → PartFits p part → CanPick p part h → PartFits p (part_by part h)
+part_fits p part None fits can = fits
+part_fits p part (Some (Take k j)) fits can = can.1
+part_fits p part (Some (State a s)) fits can = can.1
+part_fits p part (Some (Half v low C)) fits can = fits
+
+-- a view of a box that can be made fits the problem
+view_fits : (p : Network) (o : Origin) (v : BoxView) → IsOrigin p o → IsViewOf p o v → ViewFits p v
+view_fits p o v is view =
+    record {
+      part = subst (PartFits p) (sym view.part) (part_fits p o.part o.head is.part is.picks);
+      shape = view.shape;
+      bounds = subst (BoxFits p) (sym view.bounds) (bounds_fit p o.bounds o.head is.bounds);
+    }
+
+pub seen_fits : (p : Network) (pool : Boxed) (n : ℕ) (v : BoxView) → PoolFits p pool → Looks p pool n (Some v) → ViewFits p v
+seen_fits p pool n v fits looks = view_fits p looks.0 v (fits n looks.0 looks.1) looks.2
+
+-- ---- a box that was split
+
+pub split_fits : (p : Network) (old new : Boxed) (n : ℕ) (steps : List Step) (fork : Fork) (v : BoxView) → IsWithin p → ViewFits p v → HasFork p v.choice.value.part v.bounds v.turn fork → fork ≢ Least
+    → PoolFits p old → IsGiven p old new n steps (Split fork) v → PoolFits p new
+split_fits p old new n steps fork v within fits has wide all given m o here =
+    elim (appended_cases (slice_set old.origins n None) (new_origins p v (Split fork)) m (Some o) (let a = given.origins in rw a at here)) [
+      | inl before ↦ elim (set_cases old.origins n m None (Some o) before) [ inl e ↦ absurd (let a = e.1 in cc) | inr h ↦ all m o h ]
+      | inr child ↦
+          let (k, sum, at) = child in
+          let z = from_map (λ h. Some (origin_by (base_of v (next_of fork)) (Some h))) (heads_of p v.choice.value.part fork) k (Some o) at in
+          let can = (forks_are_expected p pool_scale v.choice.value.part v.bounds v.turn fork within fits.part fits.bounds has wide).1 k z.0 z.1 in
+          let e : origin_by (base_of v (next_of fork)) (Some z.0) ≡ o = (let t = z.2 in cc) in
+          subst (IsOrigin p) e (record { part = fits.part; shape = fits.shape; bounds = fits.bounds; picks = can.0; halves = can.1 })
+    ]
+
+-- ---- the fork of a view
+
+pub has_fork : (p : Network) (v : BoxView) (a b : Choice) (fork : Fork) → a ≡ v.choice.value → b ≡ v.choice.value → ViewFits p v → fork ≡ fork_of p a.shape.split_list b.part v.bounds v.turn → HasFork p v.choice.value.part v.bounds v.turn fork
+has_fork p v a b fork same_a same_b fits is =
+    record {
+      shape = v.choice.value.shape;
+      is_shape = fits.shape;
+      fork_is = is ∙ ap (λ (x : Choice). fork_of p x.shape.split_list b.part v.bounds v.turn) same_a ∙ ap (λ (x : Choice). fork_of p v.choice.value.shape.split_list x.part v.bounds v.turn) same_b;
+    }
+
+-- a fork that has children
+pub not_least : (fork : Fork) (c : Children) → (fork ≡ Least → Some c ≡ None) → fork ≢ Least
+not_least fork c h e = let n = h e in absurd cc

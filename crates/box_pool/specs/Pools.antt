@@ -1,0 +1,79 @@
+-- Pools of the boxes of a problem.
+use Rattle.std.specs.Prelude.{◌≡◌, ◌≢◌, ℕ, ◌<◌, List, [], ◌∷◌, ◌++◌, length, map, Option, Some, None, slice_get, slice_set, MatchOption}
+use Rattle.gas_model.specs.declared.rows.PartState.{PartState}
+use Rattle.gas_model.specs.Rows.{Network}
+use Rattle.gas_model.specs.Boxes.{Bounds, BoxFits}
+use Rattle.gas_model.specs.Choices.{PartFits}
+use Rattle.topo.specs.Shapes.{Layout, IsShapeOf}
+use Rattle.tree_cert.specs.declared.line.Head.{Head}
+use Rattle.tree_cert.specs.declared.line.Step.{Step}
+use Rattle.tree_pool.specs.declared.node.WorkEnd as tree
+use Rattle.tree_pool.specs.declared.node.WorkEnd.TheVariants as ends
+use Rattle.tree_pool.specs.Rows.{Row, first_row}
+use Rattle.tree_pool.specs.Calls.{IfRow, HasOrderedEnd, given_rows}
+use Rattle.box_split.specs.declared.forks.Fork.{Fork}
+use Rattle.box_split.specs.declared.forks.Fork.TheVariants.{Least}
+use Rattle.box_pool.specs.declared.pool.WorkEnd.{WorkEnd}
+use Rattle.box_pool.specs.declared.pool.WorkEnd.TheVariants.{Shut, Split, Left}
+use Rattle.box_pool.specs.declared.spot.BoxView.{BoxView}
+use Rattle.box_pool.specs.Forks.{by_of, heads_of, next_of, IsForkOf, HasFork}
+use Rattle.box_pool.specs.declared.spot.Base.{Base}
+use Rattle.box_pool.specs.Origins.{Origin, child_origins, IsOrigin, IsViewOf}
+
+-- What contracts see of a pool: its rows by number, and where the boxes come from that wait or are held.
+pub record Boxed : Type 0 where
+  pub rows : List Row
+  pub origins : List (Option Origin)
+
+-- a pool of one box alone, which waits
+pub record IsNew (p : Network) (part : PartState) (b : Bounds) (pool : Boxed) : Type 0 where
+  pub rows : pool.rows ≡ first_row ∷ []
+  pub shape : Layout
+  pub is_shape : IsShapeOf p part shape
+  pub origins : pool.origins ≡ Some (record { part = part; shape = shape; bounds = b; next = 0; head = None }) ∷ []
+
+-- all boxes that wait or are held can be made
+abbrev pub PoolFits : Network → Boxed → Type 0
+PoolFits p pool = (n : ℕ) (o : Origin) → slice_get pool.origins n ≡ Some (Some o) → IsOrigin p o
+
+-- the box of this number, if it isn't worked on yet
+abbrev pub Looks : Network → Boxed → ℕ → Option BoxView → Type 0
+Looks p pool n o = MatchOption o (slice_get pool.origins n ≡ Some None) (λ v. (from : Origin) × (slice_get pool.origins n ≡ Some (Some from)) × IsViewOf p from v)
+
+-- the view fits the problem
+pub record ViewFits (p : Network) (v : BoxView) : Type 0 where
+  pub part : PartFits p v.choice.value.part
+  pub shape : IsShapeOf p v.choice.value.part v.choice.value.shape
+  pub bounds : BoxFits p v.bounds
+
+-- the end is possible at the box that the work leaves: a split is by its fork
+abbrev pub CanEnd : Network → BoxView → WorkEnd → Type 0
+CanEnd p v (Shut c) = Unit {0}
+CanEnd p v (Split fork) = ViewFits p v × IsForkOf p fork × HasFork p v.choice.value.part v.bounds v.turn fork × (fork ≢ Least)
+CanEnd p v Left = Unit {0}
+
+-- how the tree takes an end
+abbrev pub end_as : Network → PartState → WorkEnd → tree.WorkEnd
+end_as p part (Shut c) = ends.Shut c
+end_as p part (Split fork) = ends.Split (by_of fork) (heads_of p part fork)
+end_as p part Left = ends.Left
+
+-- where the children come from that have this turn
+abbrev pub base_of : BoxView → (next : ℕ) → Base
+base_of v next = record { choice = v.choice; bounds = v.bounds; next = next }
+
+abbrev pub new_origins : Network → BoxView → WorkEnd → List (Option Origin)
+new_origins p v (Shut c) = []
+new_origins p v (Split fork) = child_origins (base_of v (next_of fork)) (heads_of p v.choice.value.part fork)
+new_origins p v Left = []
+
+-- Work was given back for box n, of which the view is left.
+pub record IsGiven (p : Network) (old new : Boxed) (n : ℕ) (steps : List Step) (end : WorkEnd) (v : BoxView) : Type 0 where
+  pub rows : IfRow old.rows n (λ r. new.rows ≡ given_rows old.rows n r.path steps (end_as p v.choice.value.part end))
+  pub origins : new.origins ≡ slice_set old.origins n None ++ new_origins p v end
+
+-- the tree splits no box by this end
+abbrev pub SplitsNone : tree.WorkEnd → Type 0
+SplitsNone (ends.Shut c) = Unit {0}
+SplitsNone (ends.Split f heads) = ⊥
+SplitsNone ends.Left = Unit {0}

@@ -1,0 +1,20 @@
+//! The pool of the boxes of a problem that a search works on, each with its part state, the ends of its variables and
+//! its turn.
+#![tactic(auto)]
+
+mod choice;
+mod forks;
+mod grid;
+mod laws;
+mod pool;
+mod spot;
+
+pub use choice::Choice;
+pub use forks::{Children, children_of};
+pub use grid::{PoolGrid, first_line};
+pub use laws::{forks_are_expected, forks_are_of_the_problem};
+pub use pool::{Pool, Work, WorkEnd};
+pub use spot::BoxView;
+
+#[cfg(test)]
+mod tests;

@@ -1,0 +1,19 @@
+use Rattle.std.proofs.Common.{◌≡◌, ◌+◌, ◌-◌, ◌*◌, ◌<◌, ◌≤◌, ◌^◌, length, pos}
+use Rattle.tree_rules.specs.Rules.{PartBox}
+use Rattle.tree_pool.specs.Rows.{splits}
+use Rattle.search_order.specs.Searches.{FirstQuit}
+use Rattle.search_order.specs.Turns.{remains}
+use Rattle.nom_search.specs.Searched.{IsSearched}
+use Rattle.nom_search.proofs.searching.drain.Given as goal
+
+abbrev pub invariant-loop-id : goal.invariant-loop-id
+invariant-loop-id l = record {
+  size : l.queue.size ≡ length l.p.nodes + length l.p.arcs;
+  within : splits l.pool.rows ≤ l.boxes;
+  room : length l.pool.rows + 1024 * (l.boxes - splits l.pool.rows) + 1024 < 2 ^ 32;
+  first : FirstQuit l.pool.rows l.first;
+  kept : (root : PartBox) → IsSearched l.p (pos l.tol) root l.boxes l.fn.pool → IsSearched l.p (pos l.tol) root l.boxes l.pool;
+}
+
+abbrev pub decreases-loop-id : goal.decreases-loop-id
+decreases-loop-id l = remains 1024 l.boxes l.pool.rows

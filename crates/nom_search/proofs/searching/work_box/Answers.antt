@@ -1,0 +1,12 @@
+use Rattle.std.proofs.Common.{pos}
+use Rattle.nom_search.proofs.Views.{seen_fits, seen_leads}
+use Rattle.nom_search.proofs.searching.work_box.Goals as goal
+
+pub settled-requires-clause-fits : goal.settled-requires-clause-fits
+settled-requires-clause-fits c = seen_fits c.args.p.now c.args.pool.now c.args.id c.in_ok-view.field-0 c.in-Some.view c.requires.fits c.in-Some.is c.in_ok-view.ensures
+
+pub branch_box-requires-clause-origin : goal.branch_box-requires-clause-origin
+branch_box-requires-clause-origin c = seen_leads c.args.p.now c.args.pool.now c.args.id c.in_ok-view.field-0 c.in-Some.view c.settled.new.view c.in_ok-steps.steps c.in_ok-steps.end c.in-Some.is c.in_ok-view.ensures c.in_ok-steps.ensures.settled
+
+pub returns-in-Shut-clause-turn : goal.returns-in-Shut-clause-turn
+returns-in-Shut-clause-turn c = c.shut_box.ensures (pos c.args.tol)

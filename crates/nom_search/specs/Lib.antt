@@ -1,0 +1,4 @@
+pub mod Sought
+pub mod Searched
+pub mod Halted
+pub mod Texts

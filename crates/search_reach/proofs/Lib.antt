@@ -1,0 +1,22 @@
+mod DepthForks
+mod DepthKids
+mod DepthLists
+mod DepthLoose
+mod DepthParts
+mod DepthTree
+mod DepthWidth
+pub mod DepthLaw
+pub mod StepChildren
+pub mod StepLaws
+pub mod StepPairs
+pub mod StepRows
+pub mod StepWidths
+pub mod WidthEnds
+pub mod WidthForks
+pub mod WidthHalves
+pub mod WidthKids
+pub mod WidthLaws
+pub mod WidthRounds
+pub mod WidthRows
+pub mod WidthTurns
+pub mod WidthWays

@@ -1,0 +1,98 @@
+-- Where a search halts, the halvings of a variable are few on the way to each box; where it stops for want of budget, the
+-- box that it names is narrow.
+use Rattle.std.proofs.Common.{◌≡◌, ℕ, suc, ◌<◌, ◌≤◌, ◌*◌, ◌^◌, refl, sym, ap, subst, ◌∙◌, inl, inr, arith, Bool, true, false, ◌||◌, List, [], ◌∷◌, length, get_or, ℤ, pos, ◌-ℤ◌, ◌*ℤ◌, ◌≤ℤ◌}
+use Rattle.std.specs.List.{list_any}
+use Rattle.std.proofs.Math.Nat.{pow-le-pow_right}
+use Rattle.std.proofs.lemmas.Nat.{pow_pos}
+use Rattle.integer_laws.proofs.Ring.{linear, mul_le_left, mul_le_right, sub_mul, one_mul, mul_zero, le_or_lt}
+use Rattle.gas_model.specs.declared.rows.PartState.{PartState}
+use Rattle.gas_model.specs.declared.rows.Var.{Var}
+use Rattle.std.specs.Prelude.{slice_get}
+use Rattle.std.proofs.lemmas.Option.{slice_get_within}
+use Rattle.std.proofs.lemmas.List.{length-map}
+use Rattle.gas_model.specs.Rows.{Network}
+use Rattle.gas_model.specs.Boxes.{BoxFits, opening, flow_ends, square_ends}
+use Rattle.topo.specs.Shapes.{Layout, IsShapeOf}
+use Rattle.tree_cert.specs.declared.line.Head.{Head}
+use Rattle.tree_rules.specs.Rules.{PartBox}
+use Rattle.tree_rules.specs.Branches.{same_var, root_box}
+use Rattle.stable_sweep.specs.Runs.{after}
+use Rattle.box_split.specs.Forks.{no_var}
+use Rattle.tree_rules.proofs.CutSound.{get_some}
+use Rattle.box_pool.specs.Grid.{pool_scale}
+use Rattle.nom_search.specs.declared.searching.Why.TheVariants.{Budget}
+use Rattle.search_reach.specs.Widths.{is_half, halves, heads_to, width_in, HalvingsAreFew, NamedBoxesAreNarrow}
+use Rattle.search_reach.proofs.WidthRows.{halted_known, left_is, turn_there, way_to}
+use Rattle.search_reach.proofs.WidthEnds.{var_is, steps_narrow, steps_same_part}
+use Rattle.search_reach.proofs.WidthWays.{Led, led_fits}
+use Rattle.search_reach.proofs.WidthHalves.{count, Shrunk, shrunk, narrower, halvings_few}
+use Rattle.search_reach.proofs.WidthRounds.{rounds_give}
+use Rattle.search_reach.proofs.WidthTurns.{in_turn}
+
+opening_fits : (p : Network) → BoxFits p (opening pool_scale p)
+opening_fits p = record { flows = length-map p.arcs (flow_ends pool_scale); squares = length-map p.nodes (square_ends pool_scale) }
+
+pub few_halvings : HalvingsAreFew
+few_halvings p tol budget why rows text line halted n r here v m at_most =
+    let root = root_box pool_scale p in
+    let known = halted_known p tol root budget why rows halted.boxes halted.turns halted.named halted.map halted.halts in
+    let b = get_some halted.boxes n (let a = slice_get_within rows n r here in let e = halted.of_root.count in omega arith) in
+    let t = turn_there (slice_get halted.turns n) in
+    let led = way_to p tol root rows halted.boxes halted.turns halted.map halted.of_root known r.path n r b.0 t.0 here b.1 t.1 refl in
+    halvings_few p root (heads_to rows r.path) b.0 t.0 v m (opening_fits p) led at_most
+
+-- a variable of a list stands at some place of it
+place_in : (v : Var) (xs : List Var) → list_any (same_var v) xs ≡ true → (i : ℕ) × (i < length xs) × (get_or xs i no_var ≡ v)
+place_in v [] e = absurd cc
+place_in v (x ∷ xs) e = by (same_var v x) refl e (place_in v xs)
+  where
+    by : (c : Bool) → same_var v x ≡ c → (c || list_any (same_var v) xs) ≡ true
+        → (list_any (same_var v) xs ≡ true → (i : ℕ) × (i < length xs) × (get_or xs i no_var ≡ v)) → (i : ℕ) × (i < suc (length xs)) × (get_or (x ∷ xs) i no_var ≡ v)
+    by true t h rest = (0, omega arith, sym (var_is v x t))
+    by false t h rest = let at = rest h in (suc at.0, (let l = at.1 in omega arith), at.2)
+
+-- ---- whole numbers
+-- a number that isn't positive, times a power of two
+not_more : (r : ℕ) (x : ℤ) → x ≤ℤ pos 0 → (pos (2 ^ r) *ℤ x) ≤ℤ x
+not_more r x h =
+    let one = pow_pos r in
+    let a = mul_le_left (pos (2 ^ r) -ℤ pos 1) x (pos 0) (omega (arith, linear)) h in
+    let b = sub_mul (pos (2 ^ r)) (pos 1) x in
+    omega (arith, linear, a, b, one_mul x, mul_zero (pos (2 ^ r) -ℤ pos 1))
+
+fewer_times : (r m : ℕ) (x y first : ℤ) → r ≤ m → pos 0 ≤ℤ x → x ≤ℤ (y -ℤ pos 1) → Shrunk m y first → (pos (2 ^ r) *ℤ x) ≤ℤ first
+fewer_times r m x y first le some less s =
+    let more : 2 ^ r ≤ 2 ^ m = pow-le-pow_right {n = 2} (omega arith) le in
+    let a = mul_le_right x (pos (2 ^ r)) (pos (2 ^ m)) some (omega (arith, linear)) in
+    let b = mul_le_left (pos (2 ^ m)) x (y -ℤ pos 1) (omega (arith, linear)) less in
+    omega (arith, linear, a, b, s.is)
+
+-- ---- the box that a way leads to
+narrow_at : (p : Network) (root : PartBox) (shape : Layout) (hs : List Head) (b : PartBox) (turn : ℕ) (w : ℤ) (v : Var) (r : ℕ) → BoxFits p root.bounds → IsShapeOf p b.part shape
+    → list_any (same_var v) shape.split_list ≡ true → Led p root hs b turn → w ≤ℤ width_in b v → length shape.split_list * r ≤ count is_half hs → (pos (2 ^ r) *ℤ (w -ℤ pos 1)) ≤ℤ width_in root v
+narrow_at p root shape hs b turn w v r fits is among led less enough =
+    elim (le_or_lt (pos 2) w) [
+      | inl wide ↦
+          let at = place_in v shape.split_list among in
+          let there : pos 2 ≤ℤ width_in b v = omega (arith, linear) in
+          let c = in_turn p root shape at.0 hs b turn fits at.1 is (subst (λ (x : Var). pos 2 ≤ℤ width_in b x) (sym at.2) there) led in
+          let few : r ≤ count (halves v) hs = subst (λ (x : Var). r ≤ count (halves x) hs) at.2 (rounds_give (length shape.split_list) (count is_half hs) (count (halves (get_or shape.split_list at.0 no_var)) hs) turn at.0 r c enough) in
+          fewer_times r (count (halves v) hs) (w -ℤ pos 1) (width_in b v) (width_in root v) few (omega (arith, linear)) (omega (arith, linear)) (shrunk p root hs b turn v fits led)
+      | inr small ↦
+          let n = narrower p root hs b turn v fits led in
+          let m = not_more r (w -ℤ pos 1) (omega (arith, linear)) in
+          omega (arith, linear)
+    ]
+
+pub narrow_named : NamedBoxesAreNarrow
+narrow_named p tol budget rows text line halted shape is v among r enough =
+    let root = root_box pool_scale p in
+    let stop = halted.halts in
+    let left = stop.left in
+    let known = halted_known p tol root budget Budget rows halted.boxes halted.turns halted.named halted.map stop in
+    let led = way_to p tol root rows halted.boxes halted.turns halted.map halted.of_root known stop.row.path halted.named stop.row left.start stop.turn stop.here left.here (λ t e. let g = left.turned in cc) refl in
+    let box : stop.box ≡ after left.start stop.row.steps = left_is p tol halted.boxes halted.turns halted.named stop.row.steps stop.turn stop.box left in
+    let part : stop.box.part ≡ left.start.part = ap (λ (x : PartBox). x.part) box ∙ steps_same_part left.start stop.row.steps in
+    let steps = steps_narrow p left.start stop.row.steps v (led_fits p root (heads_to rows stop.row.path) left.start stop.turn (opening_fits p) led) left.moves in
+    narrow_at p root shape (heads_to rows stop.row.path) left.start stop.turn (width_in stop.box v) v r (opening_fits p) (subst (λ (x : PartState). IsShapeOf p x shape) part is) among led
+    (rw box steps) enough

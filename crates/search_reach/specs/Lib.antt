@@ -1,0 +1,3 @@
+pub mod Depth
+pub mod StepPaths
+pub mod Widths

@@ -1,0 +1,11 @@
+//! How far a search reaches: how deep the box lies at which it stops and how narrow it is, and how often a variable is
+//! tightened and halved.
+#![tactic(auto)]
+
+mod depth;
+mod steps;
+mod widths;
+
+pub use depth::stopped_searches_are_deep;
+pub use steps::steps_on_paths_are_few;
+pub use widths::{halvings_are_few, named_boxes_are_narrow};
