@@ -1,12 +1,12 @@
 -- The number with which the program ends.
 use Rattle.std.specs.Prelude.{ℕ}
 use Rattle.command_core.specs.declared.status.Status.{Status}
-use Rattle.command_core.specs.declared.status.Status.TheVariants.{Accepted, Rejected, Unfinished, Kept, Broken, Passes, NotRefutation, Written, Usage, BadInput, TooLong, ReadFault, NoMemory, WriteFault}
+use Rattle.command_core.specs.declared.status.Status.TheVariants.{Accepted, Rejected, Undecided, Kept, Broken, Passes, NotRefutation, Written, Usage, BadInput, TooLong, ReadFault, NoMemory, WriteFault}
 
 abbrev pub exit_of : Status → ℕ
 exit_of Accepted = 0
 exit_of Rejected = 1
-exit_of Unfinished = 2
+exit_of (Undecided by) = 2
 exit_of Kept = 0
 exit_of (Broken law) = 3
 exit_of Passes = 0

@@ -1,5 +1,5 @@
 -- Forms of answers: what is said and written beside the status.
-use Rattle.std.specs.Prelude.{◌≡◌, ℕ, List, [], ◌∷◌, None, Some}
+use Rattle.std.specs.Prelude.{◌≡◌, ℕ, List, [], ◌∷◌, Some, decimal}
 use Rattle.command_core.specs.Meanings.{Texts}
 
 -- the text of the one OUT is such, and the line has nothing beside the status
@@ -9,11 +9,13 @@ pub record WritesOne (IsText : List ℕ → Type 0) (note : List ℕ) (texts : T
   pub no_note : note ≡ []
   pub one : texts ≡ Some text ∷ []
 
--- the one OUT isn't made, the line has nothing beside the status, and this holds
-pub record WritesNone (Holds : Type 0) (note : List ℕ) (texts : Texts) : Type 0 where
-  pub holds : Holds
-  pub no_note : note ≡ []
-  pub none : texts ≡ None ∷ []
+-- the text of the one OUT and the number that the line has beside the status are such
+pub record WritesCounted (IsText : List ℕ → ℕ → Type 0) (note : List ℕ) (texts : Texts) : Type 0 where
+  pub text : List ℕ
+  pub number : ℕ
+  pub is_text : IsText text number
+  pub noted : note ≡ decimal number
+  pub one : texts ≡ Some text ∷ []
 
 -- there is no OUT, the line has this beside the status, and this holds
 pub record SaysOnly (Holds : Type 0) (beside note : List ℕ) (texts : Texts) : Type 0 where

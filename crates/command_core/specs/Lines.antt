@@ -7,7 +7,9 @@ use Rattle.tree_cert.specs.declared.fault.TreeFault.TheVariants as tree
 use Rattle.command_core.specs.declared.status.NotFault.{NotFault}
 use Rattle.command_core.specs.declared.status.NotFault.TheVariants.{Tree, Left}
 use Rattle.command_core.specs.declared.status.Status.{Status}
-use Rattle.command_core.specs.declared.status.Status.TheVariants.{Accepted, Rejected, Unfinished, Kept, Broken, Passes, NotRefutation, Written, Usage, BadInput, TooLong, ReadFault, NoMemory, WriteFault}
+use Rattle.command_core.specs.declared.status.Status.TheVariants.{Accepted, Rejected, Undecided, Kept, Broken, Passes, NotRefutation, Written, Usage, BadInput, TooLong, ReadFault, NoMemory, WriteFault}
+use Rattle.command_core.specs.declared.status.UndecidedBy.{UndecidedBy}
+use Rattle.command_core.specs.declared.status.UndecidedBy.TheVariants.{Budget, Grid}
 use Rattle.command_core.specs.declared.status.InputFile.{InputFile}
 use Rattle.command_core.specs.declared.status.InputFile.TheVariants.{Net, Scn, Cdf, Res, Join, Flat, SettingFile, TreeFile}
 use Rattle.command_core.specs.FaultTexts.{fault_text}
@@ -44,12 +46,17 @@ law_word (laws.PressureBound n) = codes "pressure "
 law_word (laws.Balance n) = codes "balance "
 law_word (laws.Law a) = codes "law "
 
--- without its line feed and without what the command adds to it, as the id of the arc or node whose law is broken, or the
--- whole line where something was written; of want of memory and of a write fault nothing is said
+-- why a box is left open, before the number of its line
+abbrev pub open_word : UndecidedBy → List ℕ
+open_word Budget = codes "budget line "
+open_word Grid = codes "grid line "
+
+-- without its line feed and without what the command adds to it, as the id of the arc or node whose law is broken, the
+-- number of the line that leaves a box open, or the whole line where something was written; of want of memory and of a write fault nothing is said
 abbrev pub line_of : Status → List ℕ
 line_of Accepted = codes "accepted"
 line_of Rejected = codes "rejected"
-line_of Unfinished = codes "unfinished"
+line_of (Undecided by) = codes "undecided " ++ open_word by
 line_of Kept = codes "kept"
 line_of (Broken law) = codes "broken " ++ law_word law
 line_of Passes = codes "passes"

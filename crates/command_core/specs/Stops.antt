@@ -57,6 +57,7 @@ IsFault s = ⊥
 abbrev pub MakesFile : Status → Type 0
 MakesFile status.Accepted = Unit {0}
 MakesFile status.Rejected = Unit {0}
+MakesFile (status.Undecided by) = Unit {0}
 MakesFile status.Written = Unit {0}
 MakesFile s = ⊥
 
@@ -64,6 +65,7 @@ MakesFile s = ⊥
 abbrev pub MakesNoFile : Status → Type 0
 MakesNoFile status.Accepted = ⊥
 MakesNoFile status.Rejected = ⊥
+MakesNoFile (status.Undecided by) = ⊥
 MakesNoFile status.Written = ⊥
 MakesNoFile status.NoMemory = ⊥
 MakesNoFile status.WriteFault = ⊥

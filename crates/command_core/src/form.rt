@@ -1,9 +1,10 @@
 // What a command is.
-ghost use Rattle.std.specs.Prelude.{◌≡◌, ◌∷◌, [], None, Some, IfOk};
+ghost use Rattle.std.specs.Prelude.{◌≡◌, ◌∷◌, [], Some, IfOk, decimal};
 ghost use Rattle.command_core.specs.Meanings.{Meaning, Does, names};
 ghost use Rattle.command_core.specs.Gates.{Reads};
 ghost use Rattle.command_core.specs.Stops.{stop_in};
 
+use crate::words::put_numbered;
 use crate::{Status, Stop};
 use gas_desk::Desk;
 use gas_model::{Bytes, List, NoMemory};
@@ -47,19 +48,20 @@ impl Done {
         })
     }
 
-    /// The same where OUT isn't to be made.
-    pub fn unwritten(alloc: Global, status: Status) -> Result<Done, NoMemory>
+    /// The same with this number beside the status in its line.
+    pub fn counted(
+        alloc: Global,
+        status: Status,
+        text: Bytes,
+        number: u64,
+    ) -> Result<Done, NoMemory>
         ensures status { IfOk result (λ done. done.status ≡ status) }
-        ensures note { IfOk result (λ done. done.note ≡ []) }
-        ensures texts { IfOk result (λ done. done.texts ≡ None ∷ []) }
+        ensures note { IfOk result (λ done. done.note ≡ decimal number) }
+        ensures texts { IfOk result (λ done. done.texts ≡ Some text ∷ []) }
     {
-        let mut texts = List::new(alloc);
-        texts.push(None)?;
-        Ok(Done {
-            status,
-            note: Bytes::new(alloc),
-            texts,
-        })
+        let mut done = Done::written(alloc, status, text)?;
+        put_numbered(&mut done.note, b"", number)?;
+        Ok(done)
     }
 }
 

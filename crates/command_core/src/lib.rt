@@ -13,4 +13,4 @@ mod words;
 pub use ending::{conclude, speak};
 pub use form::{Command, Done};
 pub use input::{read_input, refuse};
-pub use status::{InputFault, InputFile, NotFault, Status, Stop};
+pub use status::{InputFault, InputFile, NotFault, Status, Stop, UndecidedBy};

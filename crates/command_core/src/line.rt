@@ -1,11 +1,11 @@
 // The line that the program says of each status.
 ghost use Rattle.std.specs.Prelude.{◌≡◌, ◌++◌, IfOk, OnOk, codes};
 ghost use Rattle.command_core.specs.FaultTexts.{fault_text};
-ghost use Rattle.command_core.specs.Lines.{file_word, law_word, line_of, not_text, tree_text};
+ghost use Rattle.command_core.specs.Lines.{file_word, law_word, line_of, not_text, open_word, tree_text};
 
 use crate::fault_text::put_fault;
 use crate::words::{put_both, put_numbered};
-use crate::{InputFault, InputFile, NotFault, Status};
+use crate::{InputFault, InputFile, NotFault, Status, UndecidedBy};
 use element_laws::Broken;
 use gas_model::{Bytes, NoMemory};
 use std::alloc::Global;
@@ -35,6 +35,16 @@ fn law_word(law: Broken) -> &'static [u8]
         Broken::PressureBound { .. } => b"pressure ",
         Broken::Balance { .. } => b"balance ",
         Broken::Law { .. } => b"law ",
+    }
+}
+
+// Why a box is left open; its line follows.
+fn open_word(by: UndecidedBy) -> &'static [u8]
+    ensures { result.now ≡ open_word by }
+{
+    match by {
+        UndecidedBy::Budget => b"budget line ",
+        UndecidedBy::Grid => b"grid line ",
     }
 }
 
@@ -88,7 +98,7 @@ fn put_line(line: &mut Bytes, status: &Status) -> Result<(), NoMemory>
     match status {
         Status::Accepted => line.append(b"accepted"),
         Status::Rejected => line.append(b"rejected"),
-        Status::Unfinished => line.append(b"unfinished"),
+        Status::Undecided(by) => put_both(line, b"undecided ", open_word(*by)),
         Status::Kept => line.append(b"kept"),
         Status::Broken(law) => put_both(line, b"broken ", law_word(*law)),
         Status::Passes => line.append(b"passes"),

@@ -69,6 +69,15 @@ pub enum NotFault {
     Left { line: u64 },
 }
 
+/// Why neither a setting nor a refutation was found.
+#[derive(Clone, Copy, Debug, PartialEq, Eq)]
+pub enum UndecidedBy {
+    /// As many boxes were split as were allowed, and another one would have been.
+    Budget,
+    /// Each box that is left open has no variable of which whole units lie between the ends.
+    Grid,
+}
+
 /// How a command ended.
 #[derive(Debug, Drop)]
 pub enum Status {
@@ -76,8 +85,8 @@ pub enum Status {
     Accepted,
     /// OUT holds a refutation tree: nothing carries the nomination.
     Rejected,
-    /// Neither was found. No file was made.
-    Unfinished,
+    /// Neither was found. OUT holds a refutation tree with open boxes.
+    Undecided(UndecidedBy),
     /// The setting carries the nomination within the tolerance.
     Kept,
     /// The setting doesn't. This is the first law that it breaks.
@@ -110,7 +119,7 @@ impl Status {
         match self {
             Status::Accepted | Status::Kept | Status::Passes | Status::Written => 0,
             Status::Rejected => 1,
-            Status::Unfinished => 2,
+            Status::Undecided(_) => 2,
             Status::Broken(_) | Status::NotRefutation(_) => 3,
             Status::Usage { .. } => 64,
             Status::BadInput { .. } | Status::TooLong { .. } => 65,

@@ -1,7 +1,7 @@
 -- What the headline says, of the one command that answers so.
 use Rattle.std.proofs.Common.{◌≡◌, subst, append_assoc, ℕ, List, [], ◌∷◌, ◌++◌, pos}
 use Rattle.std.proofs.lemmas.List.{append-nil}
-use Rattle.std.specs.Prelude.{Ok, Some, codes}
+use Rattle.std.specs.Prelude.{Ok, Some, codes, decimal}
 use Rattle.gas_model.specs.declared.rows.Setting.{Setting}
 use Rattle.gas_model.specs.Rows.{Network}
 use Rattle.gas_model.specs.Near.{IsNear}
@@ -9,17 +9,17 @@ use Rattle.flat_text.specs.Spelling.{flat_text}
 use Rattle.gas_desk.specs.Outside.{Outside}
 use Rattle.element_laws.specs.declared.broken.Broken.{Broken}
 use Rattle.command_core.specs.declared.status.NotFault.{NotFault}
+use Rattle.command_core.specs.declared.status.UndecidedBy.{UndecidedBy}
 use Rattle.command_core.specs.declared.status.Status.TheVariants as ends
-use Rattle.command_core.specs.Forms.{WritesOne}
 use Rattle.command_core.specs.Gates.{any_bytes, file_is, stands}
-use Rattle.command_core.specs.Lines.{law_word, not_text}
+use Rattle.command_core.specs.Lines.{law_word, not_text, open_word}
 use Rattle.command_core.specs.Meanings.{Answered, AllWritten, Distinct, Says, Texts}
 use Rattle.nomval.specs.Check.{IsNoRefutation, PassesIt}
 use Rattle.nomval.specs.Commands.{meaning}
 use Rattle.nomval.specs.Named.{id_of}
 use Rattle.nomval.specs.Headline.{Writes, HasCarried, HasRefuted, HasWritten, LeavesOpen, Replayed, IsKept, IsBroken, Checked, HasPassed, HasNotPassed}
 use Rattle.nomval.specs.Replay.{BreaksFirst, setting_is}
-use Rattle.nomval.specs.Solve.{Carries, Refutes}
+use Rattle.nomval.specs.Solve.{Carries, HaltsWith}
 use Rattle.nomval.specs.Sources.{Origin, problem_is}
 use Rattle.nomval.specs.Plain.{Words, Plain, solve, replay, check, flatten, plain}
 
@@ -32,23 +32,24 @@ line_alone : (line note : List ℕ) (before now : Outside) → note ≡ [] → S
 line_alone line note before now e said = subst (λ (x : List ℕ). Says x before now) (append-nil line) (line_with line [] note before now e said)
 
 -- an OUT with a text of this kind
-written : (IsText : ℕ → Network → List ℕ → Type 0) (line : List ℕ) (words : Words) (origin : Origin) (out : List ℕ) (tol : ℕ) (before now : Outside) (p : Network) (note : List ℕ) (texts : Texts)
-    → plain words ≡ Ok (solve origin out tol) → problem_is origin before.files ≡ stands p → WritesOne (IsText tol p) note texts
-    → (Distinct (out ∷ []) → AllWritten (out ∷ []) texts before now) → Says (line ++ note) before now → Writes IsText line words before now
-written IsText line words origin out tol before now p note texts e is w held said =
-    let all : AllWritten (out ∷ []) (Some w.text ∷ []) before now = subst (λ (x : Texts). AllWritten (out ∷ []) x before now) w.one (held (tt, tt)) in
+written : (IsText : (tol boxes : ℕ) → Network → List ℕ → Type 0) (line : List ℕ) (words : Words) (origin : Origin) (out : List ℕ) (tol boxes : ℕ) (before now : Outside) (p : Network) (text : List ℕ) (texts : Texts)
+    → plain words ≡ Ok (solve origin out tol boxes) → problem_is origin before.files ≡ stands p → IsText tol boxes p text → texts ≡ Some text ∷ []
+    → (Distinct (out ∷ []) → AllWritten (out ∷ []) texts before now) → Says line before now → Writes IsText line words before now
+written IsText line words origin out tol boxes before now p text texts e is is_text one held said =
+    let all : AllWritten (out ∷ []) (Some text ∷ []) before now = subst (λ (x : Texts). AllWritten (out ∷ []) x before now) one (held (tt, tt)) in
     record {
       origin = origin;
       out = out;
       tol = tol;
+      boxes = boxes;
       problem = p;
-      text = w.text;
+      text = text;
       is_plain = e;
       stands_for = is;
-      is_text = w.is_text;
+      is_text = is_text;
       holds = all.0.0;
       finished = all.0.1;
-      said = line_alone line note before now w.no_note said;
+      said = said;
     }
 
 -- a setting of which this holds
@@ -86,29 +87,31 @@ checked Holds line words origin name before now p tree note e is tree_is holds n
 
 pub carried_at : (words : Words) (c : Plain) (before now : Outside) → plain words ≡ Ok c
     → (meaning c).may ends.Accepted → Answered (meaning c) before now ends.Accepted → HasCarried words before now
-carried_at words (solve origin out tol) before now e own a =
-    written Carries (codes "accepted") words origin out tol before now a.answers.problem a.note a.texts e a.answers.stands_for a.answers.says a.held a.said
+carried_at words (solve origin out tol boxes) before now e own a =
+    let w = a.answers.says in
+    written (λ t n. Carries t) (codes "accepted") words origin out tol boxes before now a.answers.problem w.text a.texts e a.answers.stands_for w.is_text w.one a.held
+    (line_alone (codes "accepted") a.note before now w.no_note a.said)
 carried_at words c before now e own a = absurd own
 
 pub refuted_at : (words : Words) (c : Plain) (before now : Outside) → plain words ≡ Ok c
     → (meaning c).may ends.Rejected → Answered (meaning c) before now ends.Rejected → HasRefuted words before now
-refuted_at words (solve origin out tol) before now e own a =
-    written (λ _. Refutes) (codes "rejected") words origin out tol before now a.answers.problem a.note a.texts e a.answers.stands_for a.answers.says a.held a.said
+refuted_at words (solve origin out tol boxes) before now e own a =
+    let w = a.answers.says in
+    written (λ t n. PassesIt) (codes "rejected") words origin out tol boxes before now a.answers.problem w.text a.texts e a.answers.stands_for w.is_text w.one a.held
+    (line_alone (codes "rejected") a.note before now w.no_note a.said)
 refuted_at words c before now e own a = absurd own
 
-pub open_at : (words : Words) (c : Plain) (before now : Outside) → plain words ≡ Ok c
-    → (meaning c).may ends.Unfinished → Answered (meaning c) before now ends.Unfinished → LeavesOpen words before now
-open_at words (solve origin out tol) before now e own a = let w = a.answers.says in record {
-  origin = origin;
-  out = out;
-  tol = tol;
-  problem = a.answers.problem;
-  is_plain = e;
-  stands_for = a.answers.stands_for;
-  is_open = w.holds;
-  said = line_alone (codes "unfinished") a.note before now w.no_note a.said;
-}
-open_at words c before now e own a = absurd own
+pub open_at : (why : UndecidedBy) (words : Words) (c : Plain) (before now : Outside) → plain words ≡ Ok c
+    → (meaning c).may (ends.Undecided why) → Answered (meaning c) before now (ends.Undecided why) → LeavesOpen why words before now
+open_at why words (solve origin out tol boxes) before now e own a =
+    let w = a.answers.says in
+    let said = subst (λ (x : List ℕ). Says x before now) (append_assoc (codes "undecided ") (open_word why) (decimal w.number)) (line_with (codes "undecided " ++ open_word why) (decimal w.number) a.note before now w.noted a.said) in
+    record {
+      line = w.number;
+      writes = written (λ t n p text. HaltsWith why t n p text w.number) (codes "undecided " ++ open_word why ++ decimal w.number) words origin out tol boxes before now a.answers.problem w.text a.texts
+          e a.answers.stands_for w.is_text w.one a.held said;
+    }
+open_at why words c before now e own a = absurd own
 
 pub written_at : (words : Words) (c : Plain) (before now : Outside) → plain words ≡ Ok c
     → (meaning c).may ends.Written → Answered (meaning c) before now ends.Written → HasWritten words before now

@@ -1,6 +1,5 @@
 -- What `check` finds means what it is to mean.
 use Rattle.std.proofs.Common.{◌≡◌, sym, ap, subst, refl, ℕ, List, length}
-use Rattle.std.specs.Prelude.{true}
 use Rattle.gas_model.specs.Rows.{Network}
 use Rattle.tree_cert.specs.declared.fault.TreeFault.TheVariants as tree_fault
 use Rattle.command_core.specs.declared.form.Done.{Done}

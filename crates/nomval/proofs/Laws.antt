@@ -7,6 +7,7 @@ use Rattle.command_core.specs.declared.status.InputFile.{InputFile}
 use Rattle.command_core.specs.declared.status.InputFault.{InputFault}
 use Rattle.element_laws.specs.declared.broken.Broken.{Broken}
 use Rattle.command_core.specs.declared.status.NotFault.{NotFault}
+use Rattle.command_core.specs.declared.status.UndecidedBy.{UndecidedBy}
 use Rattle.command_core.specs.declared.status.Status.{Status}
 use Rattle.command_core.specs.declared.status.Status.TheVariants as ends
 use Rattle.command_core.specs.Gates.{found, all_fine, bad, long, AnyRose, RoseInOrder}
@@ -70,8 +71,8 @@ module _ (tells exact : Type 0) (words : Words) (before now : Outside) (status :
   pub rejected : tells → status ≡ ends.Rejected → HasRefuted words before now
   rejected t e = let f = as_of ends.Rejected e tt in refuted_at words f.0 before now f.1 (f.2.may tt) (conclusions.answered_of (meaning f.0) before now ends.Rejected tt (f.2.case t))
 
-  pub unfinished : tells → status ≡ ends.Unfinished → LeavesOpen words before now
-  unfinished t e = let f = as_of ends.Unfinished e tt in open_at words f.0 before now f.1 (f.2.may tt) (conclusions.answered_of (meaning f.0) before now ends.Unfinished tt (f.2.case t))
+  pub undecided : tells → (why : UndecidedBy) → status ≡ ends.Undecided why → LeavesOpen why words before now
+  undecided t why e = let f = as_of (ends.Undecided why) e tt in open_at why words f.0 before now f.1 (f.2.may tt) (conclusions.answered_of (meaning f.0) before now (ends.Undecided why) tt (f.2.case t))
 
   pub written : tells → status ≡ ends.Written → HasWritten words before now
   written t e = let f = as_of ends.Written e tt in written_at words f.0 before now f.1 (f.2.may tt) (conclusions.answered_of (meaning f.0) before now ends.Written tt (f.2.case t))

@@ -1,6 +1,5 @@
-pub mod EmptyTree
-pub mod ZeroFits
-pub mod FirstStates
+pub mod Begun
+pub mod Halting
 pub mod Findings
 pub mod RefutedText
 pub mod Parsed

@@ -12,7 +12,7 @@ use Rattle.nomval.specs.Flatten.{flatten_meaning}
 use Rattle.nomval.specs.Plain.{Words, Plain, solve, replay, check, flatten, plain}
 
 abbrev pub meaning : Plain → Meaning
-meaning (solve origin out tol) = solve_meaning origin out tol
+meaning (solve origin out tol boxes) = solve_meaning origin out tol boxes
 meaning (replay origin setting tol) = replay_meaning origin setting tol
 meaning (check origin tree) = check_meaning origin tree
 meaning (flatten origin out) = flatten_meaning origin out

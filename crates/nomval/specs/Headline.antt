@@ -1,5 +1,5 @@
 -- What the answers of the program say of the outside.
-use Rattle.std.specs.Prelude.{◌≡◌, ◌++◌, ◌∷◌, [], ℕ, pos, List, Some, Ok, true, codes}
+use Rattle.std.specs.Prelude.{◌≡◌, ◌++◌, ℕ, pos, List, Some, Ok, true, codes, decimal}
 use Rattle.gas_model.specs.declared.rows.Setting.{Setting}
 use Rattle.gas_model.specs.Rows.{Network}
 use Rattle.gas_model.specs.Near.{IsNear}
@@ -7,48 +7,44 @@ use Rattle.gas_desk.specs.Outside.{Outside}
 use Rattle.flat_text.specs.Spelling.{flat_text}
 use Rattle.element_laws.specs.declared.broken.Broken.{Broken}
 use Rattle.command_core.specs.declared.status.NotFault.{NotFault}
+use Rattle.command_core.specs.declared.status.UndecidedBy.{UndecidedBy}
 use Rattle.command_core.specs.Gates.{stands, file_is, any_bytes}
-use Rattle.command_core.specs.Lines.{law_word, not_text}
+use Rattle.command_core.specs.Lines.{law_word, not_text, open_word}
 use Rattle.command_core.specs.Meanings.{Says}
 use Rattle.nomval.specs.Check.{IsNoRefutation, PassesIt}
 use Rattle.nomval.specs.Named.{id_of}
 use Rattle.nomval.specs.Plain.{Words, solve, replay, check, flatten, plain}
 use Rattle.nomval.specs.Replay.{BreaksFirst, setting_is}
-use Rattle.nomval.specs.Solve.{Carries, Refutes, IsOpen}
+use Rattle.nomval.specs.Solve.{Carries, HaltsWith}
 use Rattle.nomval.specs.Sources.{Origin, problem_is}
 
 -- the words ask to solve a problem, OUT holds, finished, a text of this kind for it, and this line was said
-pub record Writes (IsText : ℕ → Network → List ℕ → Type 0) (line : List ℕ) (words : Words) (before now : Outside) : Type 0 where
+pub record Writes (IsText : (tol boxes : ℕ) → Network → List ℕ → Type 0) (line : List ℕ) (words : Words) (before now : Outside) : Type 0 where
   pub origin : Origin
   pub out : List ℕ
   pub tol : ℕ
+  pub boxes : ℕ
   pub problem : Network
   pub text : List ℕ
-  pub is_plain : plain words ≡ Ok (solve origin out tol)
+  pub is_plain : plain words ≡ Ok (solve origin out tol boxes)
   pub stands_for : problem_is origin before.files ≡ stands problem
-  pub is_text : IsText tol problem text
+  pub is_text : IsText tol boxes problem text
   pub holds : now.files out ≡ Some text
   pub finished : now.finished out ≡ true
   pub said : Says line before now
 
 -- OUT holds the text of one setting, which carries the problem within the tolerance
 abbrev pub HasCarried : Words → Outside → Outside → Type 0
-HasCarried = Writes Carries (codes "accepted")
+HasCarried = Writes (λ tol boxes. Carries tol) (codes "accepted")
 
 -- OUT holds the text of a tree that passes the checker, and nothing meets the problem
 abbrev pub HasRefuted : Words → Outside → Outside → Type 0
-HasRefuted = Writes (λ tol. Refutes) (codes "rejected")
+HasRefuted = Writes (λ tol boxes. PassesIt) (codes "rejected")
 
--- the words ask to solve a problem, which is left open
-pub record LeavesOpen (words : Words) (before now : Outside) : Type 0 where
-  pub origin : Origin
-  pub out : List ℕ
-  pub tol : ℕ
-  pub problem : Network
-  pub is_plain : plain words ≡ Ok (solve origin out tol)
-  pub stands_for : problem_is origin before.files ≡ stands problem
-  pub is_open : IsOpen tol problem
-  pub said : Says (codes "unfinished") before now
+-- OUT holds the text with which the search halted for this reason, and the line names the open box by its line there
+pub record LeavesOpen (why : UndecidedBy) (words : Words) (before now : Outside) : Type 0 where
+  pub line : ℕ
+  pub writes : Writes (λ tol boxes p text. HaltsWith why tol boxes p text line) (codes "undecided " ++ open_word why ++ decimal line) words before now
 
 -- the words ask for the flat text of a problem, and OUT holds it, finished
 pub record HasWritten (words : Words) (before now : Outside) : Type 0 where

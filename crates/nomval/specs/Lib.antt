@@ -1,10 +1,10 @@
 pub mod Tolerances
-pub mod Zero
+pub mod Budgets
 pub mod Named
 pub mod Sources
-pub mod Solve
 pub mod Replay
 pub mod Check
+pub mod Solve
 pub mod Flatten
 pub mod Plain
 pub mod Commands

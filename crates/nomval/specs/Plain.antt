@@ -1,13 +1,16 @@
 -- The plain form of the words of the command line, and the place where other words leave it.
-use Rattle.std.specs.Prelude.{◌≡◌, ℕ, ◌+◌, List, [], ◌∷◌, ◌++◌, length, Bool, false, not, ◌&&◌, is_none, ◌==◌, nat_le, if◌then◌else◌, codes, map, option_map, unwrap_or, Option, None, Some, Result, Ok, Err}
+use Rattle.std.specs.Prelude.{◌≡◌, ℕ, ◌+◌, List, [], ◌∷◌, ◌++◌, length, Bool, false, not, true, ◌&&◌, is_none, ◌==◌, nat_le, if◌then◌else◌, codes, map, ok_or, option_and_then, option_map, unwrap_or, Option, None, Some, Result, Ok, Err}
 use Rattle.std.specs.Borrow.{Bor}
 use Rattle.std.specs.Str.{bytes_eq}
 use Rattle.line_text.specs.Numerals.{natural}
 use Rattle.nomval.specs.declared.asking.Request.{Request}
 use Rattle.nomval.specs.declared.asking.Request.TheVariants as request
 use Rattle.nomval.specs.declared.words.Choice.{Choice}
-use Rattle.nomval.specs.declared.words.Choice.TheVariants.{Tol}
+use Rattle.nomval.specs.declared.words.Choice.TheVariants.{Tol, Boxes}
 use Rattle.nomval.specs.declared.words.Given.{Given}
+use Rattle.nomval.specs.declared.words.Offer.{Offer}
+use Rattle.nomval.specs.declared.words.Offer.TheVariants.{TolAlone, TolAndBoxes}
+use Rattle.nomval.specs.Budgets.{budget_of, default_budget}
 use Rattle.nomval.specs.Sources.{Origin, flat, joined, origin_of}
 use Rattle.nomval.specs.Tolerances.{default_tolerance, most_tolerance}
 
@@ -18,10 +21,11 @@ Words = List (List ℕ)
 abbrev pub texts : List (Bor (List ℕ)) → Words
 texts words = map (λ word. word.now) words
 
--- a command with the files that it names, and how far, in Pa^2, a law may be off; a problem is PROBLEM, or NET SCN CDF RES
+-- a command with the files that it names, how far, in Pa^2, a law may be off, and how many boxes may be split; a problem
+-- is PROBLEM, or NET SCN CDF RES; options come in either order
 pub data Plain : Type 0 where
-  -- `solve-flat PROBLEM OUT [--tol n]`, `solve NET SCN CDF RES OUT [--tol n]`
-  solve : Origin → (out : List ℕ) (tol : ℕ) → Plain
+  -- `solve-flat PROBLEM OUT [--tol n] [--boxes n]`, `solve NET SCN CDF RES OUT [--tol n] [--boxes n]`
+  solve : Origin → (out : List ℕ) (tol boxes : ℕ) → Plain
   -- `replay-flat PROBLEM SETTING [--tol n]`, `replay NET SCN CDF RES SETTING [--tol n]`
   replay : Origin → (setting : List ℕ) (tol : ℕ) → Plain
   -- `check-flat PROBLEM TREE`, `check NET SCN CDF RES TREE`
@@ -30,7 +34,7 @@ pub data Plain : Type 0 where
   flatten : Origin → (out : List ℕ) → Plain
 
 abbrev pub plain_of : Request → Plain
-plain_of (request.Solve asked) = solve (origin_of asked.source) asked.out.now asked.tol.value
+plain_of (request.Solve asked) = solve (origin_of asked.source) asked.out.now asked.tol.value asked.boxes.value
 plain_of (request.Replay asked) = replay (origin_of asked.source) asked.setting.now asked.tol.value
 plain_of (request.Check asked) = check (origin_of asked.source) asked.tree.now
 plain_of (request.Flatten asked) = flatten (origin_of asked.source) asked.out.now
@@ -59,37 +63,55 @@ no_more n (word ∷ words) = Err n
 -- what the options gave, if they were given
 pub record Options : Type 0 where
   pub tol : Option ℕ
+  pub boxes : Option ℕ
 
 abbrev pub options_of : Given → Options
-options_of given = record { tol = option_map (λ tol. tol.value) given.tol }
+options_of given = record { tol = option_map (λ tol. tol.value) given.tol; boxes = option_map (λ boxes. boxes.value) given.boxes }
 
 -- no option was given yet
 abbrev pub none_given : Options
-none_given = record { tol = None }
+none_given = record { tol = None; boxes = None }
 
 -- a tolerance, which is word n
 abbrev pub tolerance_in : ℕ → Option ℕ → Result ℕ ℕ
 tolerance_in n None = Err n
 tolerance_in n (Some tol) = if nat_le tol most_tolerance then Ok tol else Err n
 
--- the option that word n is, if it wasn't given yet
-abbrev pub option_in : ℕ → Options → List ℕ → Result Choice ℕ
-option_in n given word = if is_none given.tol && bytes_eq word (codes "--tol") then Ok Tol else Err n
+-- how many boxes may be split, which is word n
+abbrev pub budget_in : ℕ → Option ℕ → Result ℕ ℕ
+budget_in n number = ok_or (option_and_then budget_of number) n
+
+-- whether `--boxes` is among the options
+abbrev pub has_boxes : Offer → Bool
+has_boxes TolAlone = false
+has_boxes TolAndBoxes = true
+
+-- the option that word n is, if the command has it and it wasn't given yet
+abbrev pub option_in : ℕ → Offer → Options → List ℕ → Result Choice ℕ
+option_in n offer given word =
+    if is_none given.tol && bytes_eq word (codes "--tol") then Ok Tol
+    else if has_boxes offer && is_none given.boxes && bytes_eq word (codes "--boxes") then Ok Boxes
+    else Err n
 
 -- what is given with this option and its number, which is word n
 abbrev pub give : ℕ → Choice → Options → Option ℕ → Result Options ℕ
-give n Tol given number = tolerance_in n number >>= λ tol. Ok (record { tol = Some tol })
+give n Tol given number = tolerance_in n number >>= λ tol. Ok (record { tol = Some tol; boxes = given.boxes })
+give n Boxes given number = budget_in n number >>= λ boxes. Ok (record { tol = given.tol; boxes = Some boxes })
 
 -- the options from word n on, each at most once and with its number
-abbrev pub options_at : ℕ → Options → Words → Result Options ℕ
-options_at n given [] = Ok given
-options_at n given (word ∷ []) = option_in n given word >>= λ option. Err (n + 1)
-options_at n given (word ∷ number ∷ words) =
-    option_in n given word >>= λ option. give (n + 1) option given (natural number) >>= λ more. options_at (n + 2) more words
+abbrev pub options_at : ℕ → Offer → Options → Words → Result Options ℕ
+options_at n offer given [] = Ok given
+options_at n offer given (word ∷ []) = option_in n offer given word >>= λ option. Err (n + 1)
+options_at n offer given (word ∷ number ∷ words) =
+    option_in n offer given word >>= λ option. give (n + 1) option given (natural number) >>= λ more. options_at (n + 2) offer more words
 
 -- how far a law may be off
 abbrev pub tolerance_of : Options → ℕ
 tolerance_of given = unwrap_or given.tol default_tolerance
+
+-- how many boxes may be split
+abbrev pub boxes_of : Options → ℕ
+boxes_of given = unwrap_or given.boxes default_budget
 
 -- the one file of a flat problem, from word 1 on, and the words after it, from word 2 on
 abbrev pub flat_source : Words → Result (Origin × Words) ℕ
@@ -114,14 +136,14 @@ joined_source words = do
 abbrev pub solve_words : ℕ → Origin → Words → Result Plain ℕ
 solve_words n origin words = do
   out ← file_at n words
-  given ← options_at (n + 1) none_given out.1
-  Ok (solve origin out.0 (tolerance_of given))
+  given ← options_at (n + 1) TolAndBoxes none_given out.1
+  Ok (solve origin out.0 (tolerance_of given) (boxes_of given))
 
 -- SETTING and the options
 abbrev pub replay_words : ℕ → Origin → Words → Result Plain ℕ
 replay_words n origin words = do
   setting ← file_at n words
-  given ← options_at (n + 1) none_given setting.1
+  given ← options_at (n + 1) TolAlone none_given setting.1
   Ok (replay origin setting.0 (tolerance_of given))
 
 -- TREE alone

@@ -1,23 +1,22 @@
 // What is found for a problem.
-ghost use Rattle.std.specs.Prelude.{◌≡◌, ◌≤◌, ℕ, pos, Some, IfOk, IfSome, MatchOption};
-ghost use Rattle.gas_model.specs.Near.{IsNear};
-ghost use Rattle.box_ends.specs.Empty.{LeavesNone};
-ghost use Rattle.gas_model.specs.Boxes.{opening};
-ghost use Rattle.setting_text.specs.Writing.{setting_text};
-ghost use Rattle.tree_cert.specs.Spelling.{AreLines};
-ghost use Rattle.nomval.specs.Solve.{IsFound, empty_tree, first_shut};
+ghost use Rattle.std.specs.Prelude.{◌≡◌, ◌≤◌, ℕ, pos, IfOk};
+ghost use Rattle.gas_model.specs.Near.{IsNear, SettingFits};
+ghost use Rattle.gas_model.specs.Points.{IsInfeasible};
+ghost use Rattle.gas_model.specs.declared.rows.Setting.{Setting};
+ghost use Rattle.setting_text.specs.Reading.{StandsFor};
+ghost use Rattle.tree_cert.specs.Texts.{PassesWholeText};
+ghost use Rattle.tree_rules.specs.Branches.{rules_of};
+ghost use Rattle.nomval.specs.Budgets.{most_budget};
+ghost use Rattle.nomval.specs.Solve.{IsFound, why_of};
 ghost use Rattle.nomval.specs.Tolerances.{most_tolerance};
-ghost use Rattle.nomval.specs.Zero.{zero_setting};
 
-use crate::zero::zero_setting;
-use box_core::VarBox;
+use command_core::UndecidedBy;
 use element_laws::first_broken;
-use gas_model::{Bytes, NoMemory, Problem, Var};
-use interval_core::Ones;
-use setting_text::write_setting;
+use gas_model::{Bytes, NoMemory, Problem, Setting};
+use nom_search::{Found, Pool, Why, search};
+use setting_text::{SettingFault, read_setting, write_setting};
 use std::alloc::Global;
-use tree_cert::{Closing, Line, TreeFault, write_tree};
-use tree_check::{Verdict, check_tree};
+use tree_check::{TreeFault, Verdict, check_tree};
 
 /// What is found for a problem.
 #[derive(Debug, Drop)]
@@ -26,70 +25,89 @@ pub enum Answer {
     Carried(Bytes),
     /// The text of a tree that refutes it.
     Refuted(Bytes),
-    /// Neither.
-    Open,
+    /// The text of a tree with open boxes, and why the one that ends at this line is open.
+    Left {
+        why: UndecidedBy,
+        text: Bytes,
+        line: u64,
+    },
 }
 
-// The text of the zero setting, where it is near.
-fn carry(alloc: Global, p: &Problem, tol: u64) -> Result<Option<Bytes>, NoMemory>
-    requires { tol ≤ most_tolerance }
-    ensures near { IfOk result (λ text. MatchOption text (IsNear p.now (pos tol) (zero_setting p.now) → ⊥)
-        (λ text. IsNear p.now (pos tol) (zero_setting p.now))) }
-    ensures text { IfOk result (λ text. IfSome text (λ text. text ≡ setting_text p.now (zero_setting p.now))) }
+// Reads the text of a near setting back. Only want of memory stops it: the text stands for the setting, which breaks no law.
+fn replay_back(alloc: Global, p: &Problem, text: &[u8], tol: u64) -> Result<(), NoMemory>
+    requires tol { tol ≤ most_tolerance }
+    requires stands { (s : Setting) × StandsFor p.now text.now s × IsNear p.now (pos tol) s }
 {
-    let setting = zero_setting(alloc, p)?;
-    if first_broken(p, &setting, tol as i128).is_some() {
-        return Ok(None);
-    }
-    let text = write_setting(alloc, p, &setting)?;
-    Ok(Some(text))
-}
-
-// The end where the checker finds a fault in a tree that passes: memory ran out. Another fault never comes, as the contract
-// of `refute` shows.
-fn stop(fault: TreeFault) -> Result<Answer, NoMemory>
-    ensures { IfOk result (λ answer. fault ≡ TreeFault.NoMemory → ⊥) }
-{
-    match fault {
-        TreeFault::NoMemory => Err(NoMemory),
-        _ => Ok(Answer::Open),
+    let setting = match read_setting(alloc, p, text) {
+        Ok(setting) => setting,
+        Err(SettingFault::NoMemory) => return Err(NoMemory),
+        Err(_) => unreachable!(),
+    };
+    match first_broken(p, &setting, tol as i128) {
+        None => Ok(()),
+        Some(_) => unreachable!(),
     }
 }
 
-// The text of the tree that closes the opening box by an empty variable.
-fn write_empty_tree(alloc: Global, var: Var) -> Result<Bytes, NoMemory>
-    ensures { IfOk result (λ text. AreLines text (empty_tree var)) }
+// The text of a near setting, once it was read back.
+fn carry(alloc: Global, p: &Problem, setting: &Setting, tol: u64) -> Result<Answer, NoMemory>
+    requires tol { tol ≤ most_tolerance }
+    requires near { IsNear p.now (pos tol) setting.now }
+    requires fits { SettingFits p.now setting.now }
+    ensures { (boxes : ℕ) → IfOk result (IsFound tol boxes p.now) }
 {
-    let lines = [Line::First, Line::Close(Closing::Empty(var)), Line::End];
-    write_tree(alloc, &lines)
+    let text = write_setting(alloc, p, setting)?;
+    replay_back(alloc, p, text.as_slice(), tol)?;
+    Ok(Answer::Carried(text))
 }
 
-// The tree that closes the opening box by an empty variable, once the checker passed it.
-fn refute(alloc: Global, p: &Problem, var: Var) -> Result<Answer, NoMemory>
-    requires first { first_shut p.now ≡ Some var }
-    requires empty { LeavesNone (opening (pos 1) p.now) var }
-    ensures { (tol : ℕ) → IfOk result (IsFound tol p.now) }
+// Reads the text of a tree that passes back. Only want of memory stops it: the checker finds that it refutes.
+fn check_back(alloc: Global, p: &Problem, text: &[u8]) -> Result<(), NoMemory>
+    requires { PassesWholeText (rules_of p.now) text.now }
+    ensures { IfOk result (λ _. IsInfeasible p.now) }
 {
-    let text = write_empty_tree(alloc, var)?;
-    match check_tree(alloc, p, text.as_slice()) {
-        Ok(Verdict::Refutes) => Ok(Answer::Refuted(text)),
-        // This never comes: the tree passes, as the contract shows.
-        Ok(Verdict::Partial { .. }) => Ok(Answer::Open),
-        Err(fault) => stop(fault),
+    match check_tree(alloc, p, text) {
+        Ok(Verdict::Refutes) => Ok(()),
+        Ok(Verdict::Partial { .. }) => unreachable!(),
+        Err(TreeFault::NoMemory) => Err(NoMemory),
+        Err(_) => unreachable!(),
     }
 }
 
-// A tree, where a variable of the opening box is empty, else the zero setting, where it is near.
-pub fn answer_of(alloc: Global, p: &Problem, tol: u64) -> Result<Answer, NoMemory>
-    requires { tol ≤ most_tolerance }
-    ensures { IfOk result (IsFound tol p.now) }
+// The text of a tree that passes, once it was read back.
+fn refute(alloc: Global, p: &Problem, text: Bytes) -> Result<Answer, NoMemory>
+    requires { PassesWholeText (rules_of p.now) text }
+    ensures { (tol boxes : ℕ) → IfOk result (IsFound tol boxes p.now) }
 {
-    let bounds: VarBox<Ones> = VarBox::opening(alloc, p)?;
-    if let Some(var) = bounds.first_empty() {
-        return refute(alloc, p, var);
+    check_back(alloc, p, text.as_slice())?;
+    Ok(Answer::Refuted(text))
+}
+
+// Why the search halted.
+fn reason(why: Why) -> UndecidedBy
+    ensures { why_of result ≡ why }
+{
+    match why {
+        Why::Budget => UndecidedBy::Budget,
+        Why::Grid => UndecidedBy::Grid,
     }
-    match carry(alloc, p, tol)? {
-        Some(text) => Ok(Answer::Carried(text)),
-        None => Ok(Answer::Open),
+}
+
+/// Searches the boxes of a problem, of which `boxes` may be split, for a setting that carries it within the tolerance
+/// `tol`, in Pa^2, or a tree that refutes it. What is found is read back.
+pub fn answer_of(alloc: Global, p: &Problem, tol: u64, boxes: u64) -> Result<Answer, NoMemory>
+    requires tol { tol ≤ most_tolerance }
+    requires boxes { boxes ≤ most_budget }
+    ensures { IfOk result (IsFound tol boxes p.now) }
+{
+    let mut pool = Pool::new(alloc, p)?;
+    match search(alloc, p, &mut pool, tol, boxes)? {
+        Found::Carried(setting) => carry(alloc, p, &setting, tol),
+        Found::Refuted(text) => refute(alloc, p, text),
+        Found::Left { why, tree, line } => Ok(Answer::Left {
+            why: reason(why),
+            text: tree,
+            line,
+        }),
     }
 }

@@ -10,7 +10,7 @@ use crate::flatten::Flatten;
 use crate::replay::Replay;
 use crate::solve::Solve;
 use crate::source::Source;
-use crate::words::{Given, file_at, flat_source, joined_source, no_more, options_at};
+use crate::words::{Given, Offer, file_at, flat_source, joined_source, no_more, options_at};
 
 /// A command, with its words.
 #[derive(Clone, Copy, Debug)]
@@ -22,7 +22,10 @@ pub enum Request<'a> {
 }
 
 // Before any option.
-const NONE_GIVEN: Given = Given { tol: None };
+const NONE_GIVEN: Given = Given {
+    tol: None,
+    boxes: None,
+};
 
 // What comes after the problem, from the word at this place on: OUT and the options.
 fn solve_words<'a>(at: u64, source: Source<'a>, words: &[&'a str]) -> Result<Solve<'a>, u64>
@@ -30,11 +33,12 @@ fn solve_words<'a>(at: u64, source: Source<'a>, words: &[&'a str]) -> Result<Sol
     ensures { result_map_both (λ s. plain_of (request.Solve s)) (λ e. e) result ≡ solve_words at (origin_of source.entry) (texts words.entry.now) }
 {
     let (out, rest) = file_at(at, words)?;
-    let given = options_at(at + 1, NONE_GIVEN, rest)?;
+    let given = options_at(at + 1, Offer::TolAndBoxes, NONE_GIVEN, rest)?;
     Ok(Solve {
         source,
         out,
         tol: given.tolerance(),
+        boxes: given.budget(),
     })
 }
 
@@ -44,7 +48,7 @@ fn replay_words<'a>(at: u64, source: Source<'a>, words: &[&'a str]) -> Result<Re
     ensures { result_map_both (λ s. plain_of (request.Replay s)) (λ e. e) result ≡ replay_words at (origin_of source.entry) (texts words.entry.now) }
 {
     let (setting, rest) = file_at(at, words)?;
-    let given = options_at(at + 1, NONE_GIVEN, rest)?;
+    let given = options_at(at + 1, Offer::TolAlone, NONE_GIVEN, rest)?;
     Ok(Replay {
         source,
         setting,

@@ -3,6 +3,7 @@
 
 mod answer;
 mod asking;
+mod budget;
 mod carry;
 mod check;
 mod flatten;
@@ -14,8 +15,7 @@ mod source;
 mod tolerance;
 mod undisturbed;
 mod words;
-mod zero;
 
-pub use command_core::{InputFault, InputFile, NotFault, Status};
+pub use command_core::{InputFault, InputFile, NotFault, Status, UndecidedBy};
 pub use program::run;
 pub use undisturbed::run_undisturbed;

@@ -10,6 +10,7 @@ ghost use Rattle.command_core.specs.declared.status.InputFile.{InputFile};
 ghost use Rattle.command_core.specs.declared.status.InputFault.{InputFault};
 ghost use Rattle.command_core.specs.declared.status.NotFault.{NotFault};
 ghost use Rattle.command_core.specs.declared.status.Status.{Status};
+ghost use Rattle.command_core.specs.declared.status.UndecidedBy.{UndecidedBy};
 ghost use Rattle.nomval.specs.Commands.{ForCommand, OnCommand, meaning};
 ghost use Rattle.nomval.specs.Headline.{HasCarried, HasNotPassed, HasPassed, HasRefuted, HasWritten, IsBroken, IsKept, LeavesOpen};
 ghost use Rattle.nomval.specs.Plain.{IsPlace, Plain, plain, texts};
@@ -22,19 +23,20 @@ use std::alloc::Global;
 /// Does all that the program does: answers the words of the command line, which come after the program's name, over a
 /// desk.
 ///
-/// `solve-flat PROBLEM OUT [--tol n]` reads a flat problem and writes a setting or a refutation tree;
+/// `solve-flat PROBLEM OUT [--tol n] [--boxes n]` reads a flat problem and writes a setting or a refutation tree;
 /// `replay-flat PROBLEM SETTING [--tol n]` tells whether a setting carries a problem;
 /// `check-flat PROBLEM TREE` tells whether a tree refutes it. `solve`, `replay` and `check` are the same over the four
 /// words NET SCN CDF RES in the place of PROBLEM: a network file, a scenario file, a decision file, or `none` where there
 /// is none, and a table of resistances, which are joined. `flat NET SCN CDF RES OUT` writes the flat text of what they
-/// make. The tolerance is in Pa^2, from 0 to 10^16, and 10^8 where none is given. The order is: the words; each file of
+/// make. The tolerance is in Pa^2, from 0 to 10^16, and 10^8 where none is given; the boxes that may be split are 1 to
+/// 16,384, and 256 where none are given. The options come in either order. The order is: the words; each file of
 /// the problem: whether it can be read, its length, what it stands for; what the four make together; SETTING or TREE, if
 /// there is one, likewise, but that a tree may be any bytes; the work; OUT; the line.
 pub fn run<D: Desk>(alloc: Global, words: &[&str], desk: &mut D) -> Status
     // The answers, with what OUT then holds and the line said.
     ensures accepted { D.tells → result ≡ Status.Accepted → HasCarried (texts words.now) (D.outside desk.old) (D.outside desk.new) }
     ensures rejected { D.tells → result ≡ Status.Rejected → HasRefuted (texts words.now) (D.outside desk.old) (D.outside desk.new) }
-    ensures unfinished { D.tells → result ≡ Status.Unfinished → LeavesOpen (texts words.now) (D.outside desk.old) (D.outside desk.new) }
+    ensures undecided { D.tells → (why : UndecidedBy) → result ≡ Status.Undecided why → LeavesOpen why (texts words.now) (D.outside desk.old) (D.outside desk.new) }
     ensures kept { D.tells → result ≡ Status.Kept → IsKept (texts words.now) (D.outside desk.old) (D.outside desk.new) }
     ensures broken { D.tells → (law : Broken) → result ≡ Status.Broken law → IsBroken law (texts words.now) (D.outside desk.old) (D.outside desk.new) }
     ensures passes { D.tells → result ≡ Status.Passes → HasPassed (texts words.now) (D.outside desk.old) (D.outside desk.new) }

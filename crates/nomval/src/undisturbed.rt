@@ -10,6 +10,7 @@ ghost use Rattle.command_core.specs.declared.status.InputFile.{InputFile};
 ghost use Rattle.command_core.specs.declared.status.InputFault.{InputFault};
 ghost use Rattle.command_core.specs.declared.status.NotFault.{NotFault};
 ghost use Rattle.command_core.specs.declared.status.Status.{Status};
+ghost use Rattle.command_core.specs.declared.status.UndecidedBy.{UndecidedBy};
 ghost use Rattle.nomval.specs.Commands.{ForCommand, OnCommand, meaning};
 ghost use Rattle.nomval.specs.Headline.{HasCarried, HasNotPassed, HasPassed, HasRefuted, HasWritten, IsBroken, IsKept, LeavesOpen};
 ghost use Rattle.nomval.specs.Plain.{IsPlace, Plain, plain, texts};
@@ -30,7 +31,7 @@ pub fn run_undisturbed(alloc: Global, words: &[&str], desk: &mut NeverFails) -> 
     // Each answer says what it says of any desk.
     ensures accepted { result ≡ Status.Accepted → HasCarried (texts words.now) (never_failing desk.old) (never_failing desk.new) }
     ensures rejected { result ≡ Status.Rejected → HasRefuted (texts words.now) (never_failing desk.old) (never_failing desk.new) }
-    ensures unfinished { result ≡ Status.Unfinished → LeavesOpen (texts words.now) (never_failing desk.old) (never_failing desk.new) }
+    ensures undecided { (why : UndecidedBy) → result ≡ Status.Undecided why → LeavesOpen why (texts words.now) (never_failing desk.old) (never_failing desk.new) }
     ensures kept { result ≡ Status.Kept → IsKept (texts words.now) (never_failing desk.old) (never_failing desk.new) }
     ensures broken { (law : Broken) → result ≡ Status.Broken law → IsBroken law (texts words.now) (never_failing desk.old) (never_failing desk.new) }
     ensures passes { result ≡ Status.Passes → HasPassed (texts words.now) (never_failing desk.old) (never_failing desk.new) }

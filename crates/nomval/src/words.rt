@@ -2,9 +2,10 @@
 ghost use Rattle.std.specs.Prelude.{◌≡◌, ◌+◌, ◌<◌, ◌^◌, ℕ, length, option_map};
 ghost use Rattle.std.specs.Result.{result_map_both};
 ghost use Rattle.line_text.specs.Numerals.{natural};
-ghost use Rattle.nomval.specs.Plain.{file_at, flat_source, give, groups_file, is_file_word, joined_source, no_more, option_in, options_at, options_of, texts, tolerance_in, tolerance_of};
+ghost use Rattle.nomval.specs.Plain.{boxes_of, budget_in, file_at, flat_source, give, groups_file, has_boxes, is_file_word, joined_source, no_more, option_in, options_at, options_of, texts, tolerance_in, tolerance_of};
 ghost use Rattle.nomval.specs.Sources.{origin_of};
 
+use crate::budget::Budget;
 use crate::four::Four;
 use crate::source::Source;
 use crate::tolerance::Tolerance;
@@ -15,12 +16,36 @@ use line_text::size_at;
 pub enum Choice {
     /// `--tol`, with a tolerance in Pa^2.
     Tol,
+    /// `--boxes`, with how many boxes may be split.
+    Boxes,
+}
+
+/// Which options a command has.
+#[derive(Clone, Copy, Debug, PartialEq, Eq)]
+pub enum Offer {
+    /// `--tol` alone.
+    TolAlone,
+    /// `--tol` and `--boxes`.
+    TolAndBoxes,
+}
+
+impl Offer {
+    // Whether `--boxes` is among them.
+    fn has_boxes(self) -> bool
+        ensures { result ≡ has_boxes self }
+    {
+        match self {
+            Offer::TolAlone => false,
+            Offer::TolAndBoxes => true,
+        }
+    }
 }
 
 /// What the options gave.
 #[derive(Clone, Copy, Debug)]
 pub struct Given {
     pub tol: Option<Tolerance>,
+    pub boxes: Option<Budget>,
 }
 
 impl Given {
@@ -31,6 +56,16 @@ impl Given {
         match self.tol {
             Some(tol) => tol,
             None => Tolerance::usual(),
+        }
+    }
+
+    /// The number of boxes that was given, or the usual one.
+    pub fn budget(self) -> Budget
+        ensures { result.value ≡ boxes_of (options_of self) }
+    {
+        match self.boxes {
+            Some(boxes) => boxes,
+            None => Budget::usual(),
         }
     }
 }
@@ -106,14 +141,30 @@ fn tolerance_in(at: u64, word: &str) -> Result<Tolerance, u64>
     }
 }
 
-// The option that the word at this place is, if it wasn't given yet.
-fn option_in(at: u64, given: Given, word: &str) -> Result<Choice, u64>
-    ensures { result ≡ option_in at (options_of given) word.now }
+// The number of boxes that the word at this place is.
+fn budget_in(at: u64, word: &str) -> Result<Budget, u64>
+    ensures { result_map_both (λ boxes. boxes.value) (λ e. e) result ≡ budget_in at (natural word.now) }
 {
-    match given.tol {
-        None if word == "--tol" => Ok(Choice::Tol),
-        _ => Err(at),
+    match size_at(word) {
+        Some(value) => match Budget::of(value) {
+            Some(boxes) => Ok(boxes),
+            None => Err(at),
+        },
+        None => Err(at),
     }
+}
+
+// The option that the word at this place is, if the command has it and it wasn't given yet.
+fn option_in(at: u64, offer: Offer, given: Given, word: &str) -> Result<Choice, u64>
+    ensures { result ≡ option_in at offer (options_of given) word.now }
+{
+    if given.tol.is_none() && word == "--tol" {
+        return Ok(Choice::Tol);
+    }
+    if offer.has_boxes() && given.boxes.is_none() && word == "--boxes" {
+        return Ok(Choice::Boxes);
+    }
+    Err(at)
 }
 
 // What is given with this option and its number, which is the word at this place.
@@ -123,23 +174,33 @@ fn give(at: u64, option: Choice, given: Given, number: &str) -> Result<Given, u6
     match option {
         Choice::Tol => {
             let tol = tolerance_in(at, number)?;
-            Ok(Given { tol: Some(tol) })
+            Ok(Given {
+                tol: Some(tol),
+                boxes: given.boxes,
+            })
+        }
+        Choice::Boxes => {
+            let boxes = budget_in(at, number)?;
+            Ok(Given {
+                tol: given.tol,
+                boxes: Some(boxes),
+            })
         }
     }
 }
 
 /// What the options give, from the word at this place on.
-pub fn options_at(at: u64, given: Given, words: &[&str]) -> Result<Given, u64>
+pub fn options_at(at: u64, offer: Offer, given: Given, words: &[&str]) -> Result<Given, u64>
     requires { at + length words.now < 2 ^ 64 }
-    ensures { result_map_both options_of (λ e. e) result ≡ options_at at (options_of given) (texts words.entry.now) }
+    ensures { result_map_both options_of (λ e. e) result ≡ options_at at offer (options_of given) (texts words.entry.now) }
 {
     let Some((word, rest)) = words.split_first() else {
         return Ok(given);
     };
-    let option = option_in(at, given, word)?;
+    let option = option_in(at, offer, given, word)?;
     let Some((number, rest)) = rest.split_first() else {
         return Err(at + 1);
     };
     let more = give(at + 1, option, given, number)?;
-    options_at(at + 2, more, rest)
+    options_at(at + 2, offer, more, rest)
 }

@@ -7,11 +7,29 @@ use std::alloc::Global;
 use std::process::ExitCode;
 
 // The words of each run. The words after the command name files, up to an option.
-const RUNS: [&[&str]; 15] = [
+const RUNS: [&[&str]; 26] = [
     &["solve-flat", "one_node.flat", "out.json"],
     &["solve-flat", "two_nodes.flat", "out.json"],
     &["solve-flat", "no_pressure.flat", "out.tree"],
-    &["solve-flat", "flow_of_three.flat", "none.json"],
+    &["solve-flat", "flow_of_three.flat", "out.json"],
+    &["solve-flat", "resistor.flat", "out.json", "--tol", "0"],
+    &["solve-flat", "constant_loss.flat", "out.json", "--tol", "0"],
+    &["solve-flat", "valve_in_group.flat", "out.json"],
+    &["solve-flat", "station.flat", "out.json"],
+    &["solve-flat", "drop_of_nine.flat", "out.tree"],
+    &["solve-flat", "station_at_seven.flat", "out.tree"],
+    &["solve-flat", "two_pipes.flat", "out.json", "--tol", "1"],
+    &["solve-flat", "two_pipes.flat", "out.tree", "--tol", "0"],
+    &[
+        "solve-flat",
+        "one_way_pipes.flat",
+        "out.tree",
+        "--tol",
+        "0",
+        "--boxes",
+        "1",
+    ],
+    &["check-flat", "one_way_pipes.flat", "out.tree"],
     &[
         "replay-flat",
         "flow_of_three.flat",
@@ -64,12 +82,20 @@ const RUNS: [&[&str]; 15] = [
         "joined.flat",
     ],
     &[
+        "solve",
+        "network.net",
+        "scenario.scn",
+        "decisions.cdf",
+        "resistances.csv",
+        "out.json",
+    ],
+    &[
         "replay",
         "network.net",
         "scenario.scn",
         "decisions.cdf",
         "resistances.csv",
-        "small_network.json",
+        "out.json",
     ],
 ];
 

@@ -7,7 +7,7 @@ returns g c =
     record {
       accepted = laws.accepted _ _ _ _ _ _ ran;
       rejected = laws.rejected _ _ _ _ _ _ ran;
-      unfinished = laws.unfinished _ _ _ _ _ _ ran;
+      undecided = laws.undecided _ _ _ _ _ _ ran;
       written = laws.written _ _ _ _ _ _ ran;
       kept = laws.kept _ _ _ _ _ _ ran;
       broken = laws.broken _ _ _ _ _ _ ran;
