@@ -1,5 +1,5 @@
 -- The heads that are expected, one after the other.
-use Rattle.std.proofs.Common.{filter, ne_eqb, subst, is_some, ◌&&◌, ◌==◌, ◌≡◌, ◌≢◌, ℕ, suc, ◌+◌, ◌-◌, ◌<◌, ◌≤◌, refl, sym, ap, ◌∙◌, arith, List, [], ◌∷◌, map, length, Bool, true, false, Option, Some, None, IsTrue, cond}
+use Rattle.std.proofs.Common.{filter, ne_eqb, subst, is_some, ◌==◌, ◌≡◌, ◌≢◌, ℕ, suc, ◌+◌, ◌-◌, ◌<◌, ◌≤◌, refl, sym, ap, ◌∙◌, arith, List, [], ◌∷◌, map, length, Bool, true, false, Option, Some, None, IsTrue, cond}
 use Rattle.std.specs.List.{range_with_len}
 use Rattle.gas_model.specs.declared.rows.ArcState.{ArcState}
 use Rattle.tree_cert.specs.declared.line.Head.{Head}

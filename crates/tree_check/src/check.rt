@@ -1,8 +1,11 @@
 // The checker: it reads the lines of a text in order, and answers at the first that offends.
-ghost use Rattle.std.specs.Prelude.{◌≡◌, Some, Ok, Err, IfOk};
+ghost use Rattle.std.specs.Prelude.{◌≡◌, Some, Result, Ok, Err, IfOk};
 ghost use Rattle.gas_model.specs.Points.{IsInfeasible};
 ghost use Rattle.gas_model.specs.Rows.{Network};
 ghost use Rattle.gas_model.specs.Within.{IsWithin};
+ghost use Rattle.tree_cert.specs.declared.fault.LineFault.{LineFault as FaultOf};
+ghost use Rattle.tree_cert.specs.declared.line.Line.{Line as LineOf};
+ghost use Rattle.tree_cert.specs.Fields.{Gives};
 ghost use Rattle.tree_cert.specs.Place.{Start};
 ghost use Rattle.tree_cert.specs.Reading.{line_of};
 ghost use Rattle.tree_cert.specs.Texts.{Fails, told, next};
@@ -15,6 +18,7 @@ use crate::reader::{Mark, Reader, Stop, read};
 use crate::verdict::Verdict;
 use gas_model::Problem;
 use std::alloc::Global;
+use step_lines::next_line;
 use tree_cert::{FaultKind, Line, LineFault, TreeFault, cut_piece, read_line};
 
 // A fault with the number of its line.
@@ -77,13 +81,18 @@ fn read_first(alloc: Global, piece: &[u8]) -> Result<i128, Stop>
     }
 }
 
-// Reads the next line of a text.
-fn read_next(alloc: Global, p: &Problem, r: &mut Reader, piece: &[u8]) -> Result<Line, Stop>
+// Takes the next line of a text, as it was read.
+fn take_line(
+    alloc: Global,
+    p: &Problem,
+    r: &mut Reader,
+    given: Result<Line, LineFault>,
+) -> Result<Line, Stop>
     requires { IsReaderOf p.now r.old }
-    ensures said { SaysLine result (line_of piece.now) (place_of p.now r.new) (next (rules_of p.now) (place_of p.now r.old) (told (line_of piece.now))) }
+    ensures said { (exact : Result LineOf FaultOf) → Gives (λ l. l) given exact → SaysLine result exact (place_of p.now r.new) (next (rules_of p.now) (place_of p.now r.old) (told exact)) }
     ensures kept { IfOk result (λ line. IsReaderOf p.now r.new) }
 {
-    match read_line(alloc, piece) {
+    match given {
         Ok(line) => {
             read(alloc, p, r, &line)?;
             Ok(line)
@@ -126,8 +135,8 @@ fn judge(alloc: Global, p: &Problem, text: &[u8]) -> Result<Verdict, TreeFault>
     let mut r = Reader::new(alloc, here);
     let mut first_open = None;
     let mut number: u64 = 2;
-    while let Some((piece, after)) = cut_piece(rest) {
-        match read_next(alloc, p, &mut r, piece) {
+    while let Some((given, after)) = next_line(alloc, rest) {
+        match take_line(alloc, p, &mut r, given) {
             Ok(line) => first_open = or_open(first_open, number, &line),
             Err(stop) => return Err(stopped_at(stop, number)),
         }

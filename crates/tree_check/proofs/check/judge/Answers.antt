@@ -22,31 +22,31 @@ opening-requires c =
     let scale = (c.in-Ok.ensures c.args.p.now).1 in
     simp (to_z-of_z, scale_fits c.in-Ok.scale scale) scale
 
-pub returns-in-Err-read_next-clause-exact : goal.returns-in-Err-read_next-clause-exact
-returns-in-Err-read_next-clause-exact c =
+pub returns-in-Err-take_line-clause-exact : goal.returns-in-Err-take_line-clause-exact
+returns-in-Err-take_line-clause-exact c =
     let p = c.args.p.now in
     let text = c.args.text.now in
-    let piece = c.in-Some-cut_piece.piece.now in
-    let after = c.in-Some-cut_piece.after.now in
-    let l = c.loop-piece in
-    answered_stop p text c.stopped_at-in-Err-read_next.result c.in-Err-read_next.stop l.number c.stopped_at-in-Err-read_next.ensures
-    (λ fault e. l.invariant.0 ∙ line_stop (rules_of p) (place_of p l.r) l.number l.first_open (told (line_of piece)) l.rest.now (lines_in after) fault (lines_cut l.rest.now piece after c.in-Some-cut_piece.ensures.piece) (rw e at c.in-Err-read_next.ensures.said))
+    let n = c.in-Some-next_line.ensures in
+    let after = c.in-Some-next_line.after.now in
+    let l = c.loop-given in
+    answered_stop p text c.stopped_at-in-Err-take_line.result c.in-Err-take_line.stop l.number c.stopped_at-in-Err-take_line.ensures
+    (λ fault e. l.invariant.0 ∙ line_stop (rules_of p) (place_of p l.r) l.number l.first_open (told (line_of n.piece)) l.rest.now (lines_in after) fault (lines_cut l.rest.now n.piece after n.first) (rw e at (c.in-Err-take_line.ensures.said (line_of n.piece) n.exact)))
 
 pub returns-in-Ended-clause-exact : goal.returns-in-Ended-clause-exact
 returns-in-Ended-clause-exact c =
     let p = c.args.p.now in
     let text = c.args.text.now in
-    let l = c.loop-piece in
+    let l = c.loop-given in
     answered p text (Ok c.verdict_of.result) (passing l.first_open) c.verdict_of.ensures
-    (l.invariant.0 ∙ text_ends (rules_of p) (place_of p l.r) l.number l.first_open l.rest.now (lines_none l.rest.now c.in_default-cut_piece.ensures.piece) (ended p l.r c.in-Ended.is))
+    (l.invariant.0 ∙ text_ends (rules_of p) (place_of p l.r) l.number l.first_open l.rest.now (lines_none l.rest.now c.in_default-next_line.ensures) (ended p l.r c.in-Ended.is))
 
 pub returns : goal.returns
 returns c =
     let p = c.args.p.now in
     let text = c.args.text.now in
-    let l = c.loop-piece in
+    let l = c.loop-given in
     record {
       exact = answered p text (Err (fault.WrongEnd l.number)) (Fails l.number WrongEnd) refl
-          (l.invariant.0 ∙ text_breaks (rules_of p) (place_of p l.r) l.number l.first_open l.rest.now (lines_none l.rest.now c.in_default-cut_piece.ensures.piece) (not_ended p l.r c.in_default-mark.not-Ended));
+          (l.invariant.0 ∙ text_breaks (rules_of p) (place_of p l.r) l.number l.first_open l.rest.now (lines_none l.rest.now c.in_default-next_line.ensures) (not_ended p l.r c.in_default-mark.not-Ended));
       within = tt;
     }

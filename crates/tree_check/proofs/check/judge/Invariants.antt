@@ -5,10 +5,10 @@ use Rattle.tree_rules.specs.Branches.{rules_of}
 use Rattle.tree_check.specs.Reading.{place_of, IsReaderOf}
 use Rattle.tree_check.proofs.check.judge.Given as goal
 
-abbrev pub invariant-loop-piece : goal.invariant-loop-piece
-invariant-loop-piece l =
+abbrev pub invariant-loop-given : goal.invariant-loop-given
+invariant-loop-given l =
     (judge_all (rules_of l.p) (lines_in l.text) ≡ judge (rules_of l.p) (place_of l.p l.r) l.number l.first_open (lines_in l.rest))
     × IsReaderOf l.p l.r × (l.number + length l.rest ≤ length l.text + 1)
 
-abbrev pub decreases-loop-piece : goal.decreases-loop-piece
-decreases-loop-piece l = length l.rest
+abbrev pub decreases-loop-given : goal.decreases-loop-given
+decreases-loop-given l = length l.rest
