@@ -1,5 +1,5 @@
 -- The decisions of a group, and rows that were looked up.
-use Rattle.std.proofs.Common.{◌≡◌, ℕ, ◌+◌, ◌<◌, ◌≤◌, List, length, map, refl, sym, ap, ◌∙◌, arith, IsTrue}
+use Rattle.std.proofs.Common.{◌≡◌, ℕ, ◌<◌, ◌≤◌, List, length, arith, IsTrue}
 use Rattle.std.specs.Prelude.{slice_get, Some, get_or}
 use Rattle.std.proofs.lemmas.Option.{slice_get-get_or}
 use Rattle.gas_model.specs.declared.rows.ArcRow.{ArcRow}

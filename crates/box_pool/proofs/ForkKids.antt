@@ -1,12 +1,10 @@
 -- The children of a fork are those that its branch waits for, and each can be made.
-use Rattle.std.proofs.Common.{◌≡◌, ◌≢◌, ℕ, zero, suc, ◌+◌, ◌<◌, ◌≤◌, Bool, true, false, cond, not, ◌&&◌, List, [], ◌∷◌, ◌++◌, map, filter, length, Option, Some, None, refl, sym, ap, subst, ◌∙◌, ◌⊎◌, inl, inr, arith, ℤ, pos, ◌+ℤ◌, ◌-ℤ◌, ◌*ℤ◌, ◌≤ℤ◌, ◌<ℤ◌, IsTrue, length-set}
+use Rattle.std.proofs.Common.{◌≡◌, ℕ, zero, suc, ◌+◌, ◌<◌, Bool, true, false, cond, ◌&&◌, List, [], ◌∷◌, map, filter, length, Option, Some, None, refl, sym, ap, subst, ◌∙◌, ◌⊎◌, inl, inr, arith, ℤ, pos, ◌+ℤ◌, ◌-ℤ◌, ◌*ℤ◌, ◌<ℤ◌, IsTrue, length-set}
 use Rattle.std.proofs.lemmas.Bool.{and_parts, and_from}
 use Rattle.std.proofs.lemmas.List.Folds.{list_all-append}
 use Rattle.integer_laws.proofs.Ring.{linear, mul_add, mul_one}
-use Rattle.std.specs.Prelude.{◌==◌, slice_get, slice_set, slice_index_or, option_map, option_and_then, is_none, is_some, int_lt, int_le, get_or}
+use Rattle.std.specs.Prelude.{◌==◌, slice_get, slice_set, is_none, is_some, int_lt, int_le}
 use Rattle.std.specs.List.{list_all, range_with_len}
-use Rattle.std.specs.Option.{option_map_or}
-use Rattle.std.proofs.lemmas.Option.{slice_get_within}
 use Rattle.std.proofs.lemmas.Int.{ints}
 use Rattle.gas_model.specs.declared.rows.Allow.{Allow}
 use Rattle.gas_model.specs.declared.rows.ArcKind.{ArcKind}
@@ -20,23 +18,20 @@ use Rattle.gas_model.specs.declared.rows.Ruling.{Ruling}
 use Rattle.gas_model.specs.declared.rows.Ends.{Ends}
 use Rattle.gas_model.specs.declared.rows.Var.{Var}
 use Rattle.gas_model.specs.Rows.{Network}
-use Rattle.gas_model.specs.Boxes.{Bounds, BoxFits, is_var, is_in_box, ends_of, width_of, may_become}
+use Rattle.gas_model.specs.Boxes.{Bounds, is_var, is_in_box, ends_of, width_of, may_become}
 use Rattle.gas_model.specs.Choices.{states_of, has_state, allowed_states, picks_allow, fixed_state, PartFits}
-use Rattle.gas_model.specs.Rulings.{pick_in, is_free, rulings_in, rulings_by, rulings_from, rulings_at}
+use Rattle.gas_model.specs.Rulings.{pick_in, is_free, rulings_in, rulings_by, rulings_from}
 use Rattle.tree_cert.specs.declared.line.Head.{Head}
 use Rattle.tree_cert.specs.declared.line.Head.TheVariants.{Take, State, Half}
-use Rattle.tree_cert.specs.TreeRules.{Holds}
 use Rattle.tree_rules.specs.Rules.{PartBox}
-use Rattle.tree_rules.specs.Branches.{Wait, Heads, Halves, with_pick, with_state, headed, decision_heads, group_heads, state_heads, arc_heads, after_branch, after_head, same_head, same_var, lies_inside, lower_half, upper_half, rules_of}
+use Rattle.tree_rules.specs.Branches.{Heads, Halves, with_pick, with_state, headed, decision_heads, after_head, same_head, same_var, lies_inside, lower_half, upper_half, rules_of}
 use Rattle.tree_rules.proofs.SameHeads.{heads_are_told_apart}
 use Rattle.tree_pool.specs.Rules.{AreExpected}
 use Rattle.topo.specs.States.{fixed_at}
-use Rattle.box_split.specs.declared.forks.Fork.{Fork}
-use Rattle.box_split.specs.declared.forks.Fork.TheVariants.{Group as GroupFork, Free, Halve, Least}
+use Rattle.box_split.specs.declared.forks.Fork.TheVariants.{Group as GroupFork, Free, Halve}
 use Rattle.box_split.specs.Forks.{is_wide, middle}
 use Rattle.std.specs.Int.{int_rem_euclid}
 use Rattle.gas_units.proofs.Quotients.{euclid_divides}
-use Rattle.box_pool.specs.Forks.{heads_of}
 use Rattle.box_pool.specs.Origins.{CanPick, CanHalve}
 use Rattle.box_pool.specs.Expected.{kids_of, IsExpected, CanBegin}
 

@@ -1,5 +1,5 @@
 -- The group, the arc or the variable of a fork is one of the problem.
-use Rattle.std.proofs.Common.{◌≡◌, ℕ, zero, suc, ◌+◌, ◌-◌, ◌<◌, ◌≤◌, Bool, true, false, List, length, refl, sym, ap, subst, ◌∙◌, ◌⊎◌, inl, inr, arith, IsTrue}
+use Rattle.std.proofs.Common.{◌≡◌, ℕ, zero, suc, ◌<◌, Bool, true, false, length, refl, subst, ◌∙◌, arith, IsTrue}
 use Rattle.std.specs.Prelude.{Option, Some, None, is_none, if◌then◌else◌, nat_lt}
 use Rattle.std.proofs.lemmas.Bool.Decides.{nat_tests}
 use Rattle.gas_model.specs.declared.rows.PartState.{PartState}
@@ -7,13 +7,13 @@ use Rattle.gas_model.specs.declared.rows.Var.{Var}
 use Rattle.gas_model.specs.declared.rows.Var.TheVariants.{Flow, Square}
 use Rattle.gas_model.specs.Rows.{Network}
 use Rattle.gas_model.specs.Rulings.{pick_in}
-use Rattle.gas_model.specs.Boxes.{Bounds, BoxFits, is_var, is_in_box, ends_of}
+use Rattle.gas_model.specs.Boxes.{Bounds, BoxFits, is_var, is_in_box}
 use Rattle.gas_model.specs.Within.{IsWithin}
 use Rattle.topo.specs.Shapes.{Layout, IsShapeOf}
 use Rattle.topo.specs.States.{fixed_at}
 use Rattle.box_split.specs.declared.forks.Fork.{Fork}
-use Rattle.box_split.specs.declared.forks.Fork.TheVariants.{Group, Free, Halve, Least}
-use Rattle.box_split.specs.Forks.{first, or_else, if_none, is_wide, is_other, at_turn, halved, after, round, start, fork_of, AreVars}
+use Rattle.box_split.specs.declared.forks.Fork.TheVariants.{Group, Free, Least}
+use Rattle.box_split.specs.Forks.{first, or_else, if_none, is_wide, is_other, at_turn, halved, after, round, start, fork_of}
 use Rattle.box_split.proofs.Listed.{split_vars}
 use Rattle.box_split.proofs.Rounds.{begins_within}
 use Rattle.box_pool.specs.Forks.{IsForkOf}

@@ -1,14 +1,13 @@
 -- Each fork of a box is expected, and its children can be made.
-use Rattle.std.proofs.Common.{◌≡◌, ◌≢◌, ℕ, ◌+◌, ◌<◌, Bool, true, false, not, ◌&&◌, List, length, refl, sym, ap, subst, ◌∙◌, arith, ℤ, IsTrue}
+use Rattle.std.proofs.Common.{◌≡◌, ◌≢◌, ℕ, ◌<◌, true, false, not, length, refl, sym, subst, arith, IsTrue}
 use Rattle.std.specs.Prelude.{Option, Some, None, is_none}
 use Rattle.std.specs.List.{list_any}
 use Rattle.std.proofs.lemmas.Bool.{and_parts}
-use Rattle.gas_model.specs.declared.rows.PartState.{PartState}
 use Rattle.gas_model.specs.declared.rows.Var.{Var}
 use Rattle.gas_model.specs.declared.rows.Var.TheVariants.{Flow, Square}
 use Rattle.gas_model.specs.Rows.{Network}
 use Rattle.gas_model.specs.Rulings.{pick_in}
-use Rattle.gas_model.specs.Boxes.{Bounds, BoxFits, is_var, is_in_box, ends_of}
+use Rattle.gas_model.specs.Boxes.{BoxFits, is_var, is_in_box}
 use Rattle.gas_model.specs.Choices.{PartFits}
 use Rattle.gas_model.specs.Within.{IsWithin}
 use Rattle.topo.specs.Shapes.{Layout, IsShapeOf}
@@ -16,7 +15,7 @@ use Rattle.topo.specs.States.{fixed_at}
 use Rattle.tree_rules.specs.Rules.{PartBox}
 use Rattle.tree_rules.specs.Branches.{same_var}
 use Rattle.box_split.specs.declared.forks.Fork.{Fork}
-use Rattle.box_split.specs.declared.forks.Fork.TheVariants.{Group, Free, Halve, Least}
+use Rattle.box_split.specs.declared.forks.Fork.TheVariants.{Group, Free, Least}
 use Rattle.box_split.specs.Forks.{first, if_none, is_wide, is_other, at_turn, halved, after, round, start, fork_of}
 use Rattle.box_split.proofs.Firsts.{all_false}
 use Rattle.box_split.proofs.Listed.{split_vars}

@@ -1,5 +1,5 @@
 -- What the rules expect after a fork, and what can be made of its children.
-use Rattle.std.specs.Prelude.{◌≡◌, ◌≢◌, ℕ, ℤ, List, [], ◌∷◌, map, Some, slice_get}
+use Rattle.std.specs.Prelude.{◌≡◌, ◌≢◌, ℕ, ℤ, List, map, Some, slice_get}
 use Rattle.gas_model.specs.declared.rows.PartState.{PartState}
 use Rattle.gas_model.specs.Rows.{Network}
 use Rattle.gas_model.specs.Boxes.{Bounds, BoxFits}
@@ -8,12 +8,12 @@ use Rattle.gas_model.specs.Within.{IsWithin}
 use Rattle.tree_cert.specs.declared.line.Head.{Head}
 use Rattle.tree_cert.specs.TreeRules.{Holds}
 use Rattle.tree_rules.specs.Rules.{PartBox}
-use Rattle.tree_rules.specs.Branches.{Wait, headed, after_branch, rules_of}
+use Rattle.tree_rules.specs.Branches.{headed, after_branch, rules_of}
 use Rattle.tree_pool.specs.Rules.{AreExpected}
 use Rattle.tree_pool.specs.Nodes.{branch_of}
 use Rattle.box_split.specs.declared.forks.Fork.{Fork}
-use Rattle.box_split.specs.declared.forks.Fork.TheVariants.{Group, Free, Halve, Least}
-use Rattle.box_pool.specs.Forks.{by_of, heads_of, IsForkOf, HasFork}
+use Rattle.box_split.specs.declared.forks.Fork.TheVariants.{Least}
+use Rattle.box_pool.specs.Forks.{by_of, heads_of, HasFork}
 use Rattle.box_pool.specs.Origins.{CanPick, CanHalve}
 
 -- the children of a box with these heads

@@ -1,5 +1,5 @@
 -- The children of a fork.
-use Rattle.std.specs.Prelude.{◌≡◌, ℕ, ◌<◌, List, [], ◌∷◌, length, map, Option, Some, None, slice_get, MatchOption, IsTrue}
+use Rattle.std.specs.Prelude.{◌≡◌, ℕ, ◌<◌, List, [], ◌∷◌, length, map, Option, slice_get, MatchOption, IsTrue}
 use Rattle.std.specs.Option.{option_map_or}
 use Rattle.gas_model.specs.declared.rows.ArcRow.{ArcRow}
 use Rattle.gas_model.specs.declared.rows.PartState.{PartState}
@@ -9,7 +9,7 @@ use Rattle.gas_model.specs.Boxes.{Bounds, is_var}
 use Rattle.topo.specs.Shapes.{Layout, IsShapeOf}
 use Rattle.box_split.specs.Forks.{fork_of}
 use Rattle.tree_cert.specs.declared.line.Head.{Head}
-use Rattle.tree_cert.specs.declared.line.Head.TheVariants.{Take, State, Half}
+use Rattle.tree_cert.specs.declared.line.Head.TheVariants.{State}
 use Rattle.tree_rules.specs.Branches.{decision_heads, lower_half, upper_half}
 use Rattle.box_split.specs.declared.forks.Fork.{Fork}
 use Rattle.box_split.specs.declared.forks.Fork.TheVariants.{Group, Free, Halve, Least}

@@ -1,5 +1,5 @@
 -- What holds of forks and their children.
-use Rattle.std.specs.Prelude.{◌≡◌, ℕ}
+use Rattle.std.specs.Prelude.{ℕ}
 use Rattle.gas_model.specs.declared.rows.PartState.{PartState}
 use Rattle.gas_model.specs.Rows.{Network}
 use Rattle.gas_model.specs.Boxes.{Bounds, BoxFits}

@@ -1,5 +1,6 @@
 -- Where the boxes of a pool come from that are still to be worked on.
-use Rattle.std.specs.Prelude.{◌≡◌, ℕ, ◌<◌, ℤ, List, length, map, Option, Some, None, option_map, IsTrue}
+use Rattle.std.specs.Prelude.{◌≡◌, ℕ, ◌<◌, ℤ, List, length, map, Option, Some, None, option_map, IfSome, IsTrue}
+use Rattle.std.specs.Rc.{rc_value}
 use Rattle.gas_model.specs.declared.rows.PartState.{PartState}
 use Rattle.gas_model.specs.Rows.{Network}
 use Rattle.gas_model.specs.Boxes.{Bounds, BoxFits, ends_of, is_in_box, may_become, tightened}
@@ -13,10 +14,11 @@ use Rattle.box_pool.specs.declared.spot.Base.{Base}
 use Rattle.box_pool.specs.declared.spot.Spot.{Spot}
 use Rattle.box_pool.specs.declared.spot.BoxView.{BoxView}
 
--- a box that was split, after its steps, with the turn of its children; and the head of the child. The root has none.
+-- a box that was split, after its steps, with the child's shape, where it is kept, and the turn of its children; and the
+-- head of the child. The root has none.
 pub record Origin : Type 0 where
   pub part : PartState
-  pub shape : Layout
+  pub shape : Option Layout
   pub bounds : Bounds
   pub next : ℕ
   pub head : Option Head
@@ -62,14 +64,14 @@ CanHalve b (Some (Half v low C)) = IsTrue (is_in_box b v) × IsTrue (may_become 
 
 pub record IsOrigin (p : Network) (o : Origin) : Type 0 where
   pub part : PartFits p o.part
-  pub shape : IsShapeOf p o.part o.shape
+  pub shape : IfSome o.shape (IsShapeOf p (part_by o.part o.head))
   pub bounds : BoxFits p o.bounds
   pub picks : CanPick p o.part o.head
   pub halves : CanHalve o.bounds o.head
 
 -- what stands in the code
 abbrev pub origin_by : Base → Option Head → Origin
-origin_by b h = record { part = b.choice.value.part; shape = b.choice.value.shape; bounds = b.bounds; next = b.next; head = h }
+origin_by b h = record { part = b.part.value; shape = option_map rc_value b.shape; bounds = b.bounds.value; next = b.next; head = h }
 
 abbrev pub origin_of : Spot → Origin
 origin_of s = origin_by s.base.value s.head
@@ -80,9 +82,10 @@ origins_of spots = map (option_map origin_of) spots
 abbrev pub child_origins : Base → List Head → List (Option Origin)
 child_origins b heads = map (λ h. Some (origin_by b (Some h))) heads
 
--- it is the box that comes from there, with its shape and its turn
+-- it is the box that comes from there, with its shape, its turn and its head
 pub record IsViewOf (p : Network) (o : Origin) (v : BoxView) : Type 0 where
-  pub part : v.choice.value.part ≡ part_by o.part o.head
-  pub shape : IsShapeOf p v.choice.value.part v.choice.value.shape
-  pub bounds : v.bounds ≡ bounds_by o.bounds o.head
+  pub part : v.part.value ≡ part_by o.part o.head
+  pub shape : IsShapeOf p v.part.value v.shape.value
+  pub bounds : v.bounds.value ≡ bounds_by o.bounds o.head
   pub turn : v.turn ≡ turn_of o
+  pub head : v.head ≡ o.head

@@ -1,17 +1,17 @@
 -- Pools of the boxes of a problem.
-use Rattle.std.specs.Prelude.{◌≡◌, ◌≢◌, ℕ, ◌<◌, List, [], ◌∷◌, ◌++◌, length, map, Option, Some, None, slice_get, slice_set, MatchOption}
+use Rattle.std.specs.Prelude.{◌≡◌, ◌≢◌, ℕ, List, [], ◌∷◌, ◌++◌, Option, Some, None, slice_get, slice_set, MatchOption}
 use Rattle.gas_model.specs.declared.rows.PartState.{PartState}
 use Rattle.gas_model.specs.Rows.{Network}
 use Rattle.gas_model.specs.Boxes.{Bounds, BoxFits}
 use Rattle.gas_model.specs.Choices.{PartFits}
 use Rattle.topo.specs.Shapes.{Layout, IsShapeOf}
-use Rattle.tree_cert.specs.declared.line.Head.{Head}
 use Rattle.tree_cert.specs.declared.line.Step.{Step}
+use Rattle.tree_pool.specs.declared.node.BranchBy.{BranchBy}
+use Rattle.tree_pool.specs.declared.node.BranchBy.TheVariants as by
 use Rattle.tree_pool.specs.declared.node.WorkEnd as tree
 use Rattle.tree_pool.specs.declared.node.WorkEnd.TheVariants as ends
 use Rattle.tree_pool.specs.Rows.{Row, first_row}
-use Rattle.tree_pool.specs.Calls.{IfRow, HasOrderedEnd, given_rows}
-use Rattle.box_split.specs.declared.forks.Fork.{Fork}
+use Rattle.tree_pool.specs.Calls.{IfRow, given_rows}
 use Rattle.box_split.specs.declared.forks.Fork.TheVariants.{Least}
 use Rattle.box_pool.specs.declared.pool.WorkEnd.{WorkEnd}
 use Rattle.box_pool.specs.declared.pool.WorkEnd.TheVariants.{Shut, Split, Left}
@@ -30,7 +30,7 @@ pub record IsNew (p : Network) (part : PartState) (b : Bounds) (pool : Boxed) : 
   pub rows : pool.rows ≡ first_row ∷ []
   pub shape : Layout
   pub is_shape : IsShapeOf p part shape
-  pub origins : pool.origins ≡ Some (record { part = part; shape = shape; bounds = b; next = 0; head = None }) ∷ []
+  pub origins : pool.origins ≡ Some (record { part = part; shape = Some shape; bounds = b; next = 0; head = None }) ∷ []
 
 -- all boxes that wait or are held can be made
 abbrev pub PoolFits : Network → Boxed → Type 0
@@ -42,14 +42,14 @@ Looks p pool n o = MatchOption o (slice_get pool.origins n ≡ Some None) (λ v.
 
 -- the view fits the problem
 pub record ViewFits (p : Network) (v : BoxView) : Type 0 where
-  pub part : PartFits p v.choice.value.part
-  pub shape : IsShapeOf p v.choice.value.part v.choice.value.shape
-  pub bounds : BoxFits p v.bounds
+  pub part : PartFits p v.part.value
+  pub shape : IsShapeOf p v.part.value v.shape.value
+  pub bounds : BoxFits p v.bounds.value
 
 -- the end is possible at the box that the work leaves: a split is by its fork
 abbrev pub CanEnd : Network → BoxView → WorkEnd → Type 0
 CanEnd p v (Shut c) = Unit {0}
-CanEnd p v (Split fork) = ViewFits p v × IsForkOf p fork × HasFork p v.choice.value.part v.bounds v.turn fork × (fork ≢ Least)
+CanEnd p v (Split fork) = ViewFits p v × IsForkOf p fork × HasFork p v.part.value v.bounds.value v.turn fork × (fork ≢ Least)
 CanEnd p v Left = Unit {0}
 
 -- how the tree takes an end
@@ -58,18 +58,24 @@ end_as p part (Shut c) = ends.Shut c
 end_as p part (Split fork) = ends.Split (by_of fork) (heads_of p part fork)
 end_as p part Left = ends.Left
 
--- where the children come from that have this turn
-abbrev pub base_of : BoxView → (next : ℕ) → Base
-base_of v next = record { choice = v.choice; bounds = v.bounds; next = next }
+-- what is kept for halves alone
+abbrev pub for_halves : {A : Type 0} → BranchBy → A → Option A
+for_halves (by.Group k) x = None
+for_halves (by.Arc a) x = None
+for_halves (by.Halves v) x = Some x
+
+-- where the children come from that have this turn; halves have the shape of the box, too
+abbrev pub base_of : BoxView → BranchBy → (next : ℕ) → Base
+base_of v branch next = record { part = v.part; shape = for_halves branch v.shape; bounds = v.bounds; next = next }
 
 abbrev pub new_origins : Network → BoxView → WorkEnd → List (Option Origin)
 new_origins p v (Shut c) = []
-new_origins p v (Split fork) = child_origins (base_of v (next_of fork)) (heads_of p v.choice.value.part fork)
+new_origins p v (Split fork) = child_origins (base_of v (by_of fork) (next_of fork)) (heads_of p v.part.value fork)
 new_origins p v Left = []
 
 -- Work was given back for box n, of which the view is left.
 pub record IsGiven (p : Network) (old new : Boxed) (n : ℕ) (steps : List Step) (end : WorkEnd) (v : BoxView) : Type 0 where
-  pub rows : IfRow old.rows n (λ r. new.rows ≡ given_rows old.rows n r.path steps (end_as p v.choice.value.part end))
+  pub rows : IfRow old.rows n (λ r. new.rows ≡ given_rows old.rows n r.path steps (end_as p v.part.value end))
   pub origins : new.origins ≡ slice_set old.origins n None ++ new_origins p v end
 
 -- the tree splits no box by this end

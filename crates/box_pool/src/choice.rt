@@ -1,31 +1,9 @@
-// A part state with its shape.
+// Part states in which one more choice is made.
 ghost use Rattle.std.specs.Prelude.{◌≡◌, ◌<◌, length, IfOk};
-ghost use Rattle.gas_model.specs.Choices.{PartFits};
-ghost use Rattle.topo.specs.Shapes.{IsShapeOf};
 ghost use Rattle.tree_rules.specs.Branches.{with_pick, with_state};
 
-use gas_model::{ArcState, List, NoMemory, PartState, Problem};
+use gas_model::{ArcState, List, NoMemory, PartState};
 use std::alloc::Global;
-use topo::Shape;
-
-/// A part state, and the shape of the network in it.
-#[derive(Drop)]
-pub struct Choice {
-    pub part: PartState,
-    pub shape: Shape,
-}
-
-impl Choice {
-    /// A part state with its shape.
-    pub fn of(alloc: Global, p: &Problem, part: PartState) -> Result<Choice, NoMemory>
-        requires { PartFits p.now part }
-        ensures part { IfOk result (λ choice. choice.part ≡ part) }
-        ensures shape { IfOk result (λ choice. IsShapeOf p.now part choice.shape) }
-    {
-        let shape = Shape::of(alloc, p, &part)?;
-        Ok(Choice { part, shape })
-    }
-}
 
 // The same items once more.
 fn copied<T: Copy + Drop>(alloc: Global, items: &[T]) -> Result<List<T>, NoMemory>

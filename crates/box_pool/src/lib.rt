@@ -9,12 +9,11 @@ mod laws;
 mod pool;
 mod spot;
 
-pub use choice::Choice;
 pub use forks::{Children, children_of};
 pub use grid::{PoolGrid, first_line};
 pub use laws::{forks_are_expected, forks_are_of_the_problem};
 pub use pool::{Pool, Work, WorkEnd};
-pub use spot::BoxView;
+pub use spot::{BoxView, shared};
 
 #[cfg(test)]
 mod tests;

@@ -15,7 +15,6 @@ ghost use Rattle.box_pool.specs.Pools.{Boxed, end_as, IsNew, PoolFits, Looks, Vi
 ghost use Rattle.tree_pool.specs.declared.node.WorkEnd.TheVariants as tree_ends;
 ghost use Rattle.box_split.specs.declared.forks.Fork.{Fork as AFork};
 
-use crate::choice::Choice;
 use crate::forks::{Children, children_of};
 use crate::grid::{PoolGrid, first_line};
 use crate::spot::{Base, BoxView, Spot, shared, spots};
@@ -24,7 +23,9 @@ use box_split::Fork;
 use gas_model::{Bytes, List, NoMemory, PartState, Problem};
 use std::alloc::Global;
 use std::marker::Model;
+use topo::Shape;
 use tree_cert::{Closing, Step};
+use tree_pool::BranchBy;
 
 /// How work on a box ends: a closing holds; the box is split by its fork; or it stays open for good.
 #[derive(Drop)]
@@ -61,6 +62,29 @@ impl Model for Pool {
     ghost invariant = { λ p. length p.spots.items ≡ length p.tree };
 }
 
+// What the children have in common of a box that work left. The halves have its shape too.
+fn base_of(left: BoxView, by: BranchBy, next: u32) -> Base
+    ensures { result ≡ base_of left by next }
+{
+    let BoxView {
+        part,
+        shape,
+        bounds,
+        turn: _,
+        head: _,
+    } = left;
+    let shape = match by {
+        BranchBy::Halves(_) => Some(shape),
+        BranchBy::Group(_) | BranchBy::Arc(_) => None,
+    };
+    Base {
+        part,
+        shape,
+        bounds,
+        next,
+    }
+}
+
 // One waiting box.
 fn one_spot(alloc: Global, base: Base) -> Result<Vec<Option<Spot>>, NoMemory>
     ensures { IfOk result (λ all. origins_of all.items ≡ Some (origin_by base None) ∷ []) }
@@ -91,9 +115,11 @@ impl Pool {
         requires part { PartFits p.now part }
         ensures { IfOk result (IsNew p.now part bounds) }
     {
+        let shape = Shape::of(alloc, p, &part)?;
         let base = Base {
-            choice: shared(alloc, Choice::of(alloc, p, part)?)?,
-            bounds,
+            part: shared(alloc, part)?,
+            shape: Some(shared(alloc, shape)?),
+            bounds: shared(alloc, bounds)?,
             next: 0,
         };
         Ok(Pool {
@@ -150,7 +176,7 @@ impl Pool {
         self.tree.line_of(id)
     }
 
-    /// A box that waits or is held, with its part state, its ends and its turn; `None` for one that was worked.
+    /// A box that waits or is held, with its part state, its ends, its turn and its head; `None` for one that was worked.
     pub fn look(&self, alloc: Global, p: &Problem, id: u32) -> Result<Option<BoxView>, NoMemory>
         requires id { id < length self.now.rows }
         requires fits { PoolFits p.now self.now }
@@ -189,15 +215,11 @@ impl Pool {
         requires held { IsHeld self.old.rows id }
         requires room { length self.old.rows + length children.heads < 2 ^ 32 }
         ensures rows { OnOk result (IfRow self.old.rows id (λ r. self.new.rows ≡ given_rows self.old.rows id r.path steps (tree_ends.Split children.by children.heads))) }
-        ensures origins { OnOk result (self.new.origins ≡ slice_set self.old.origins id None ++ child_origins (base_of left children.next) children.heads) }
+        ensures origins { OnOk result (self.new.origins ≡ slice_set self.old.origins id None ++ child_origins (base_of left children.by children.next) children.heads) }
         ensures err { OnErr result (self.new ≡ self.old) }
     {
         let Children { by, heads, next } = children;
-        let base = Base {
-            choice: left.choice,
-            bounds: left.bounds,
-            next,
-        };
+        let base = base_of(left, by, next);
         let mut fresh = spots(alloc, base, heads.as_slice())?;
         let count = self.spots.len();
         self.spots.append(&mut fresh)?;
@@ -230,8 +252,8 @@ impl Pool {
         left: BoxView,
     ) -> Result<(), NoMemory>
         requires held { IsHeld self.old.rows id }
-        requires ordered { HasOrderedEnd (end_as p.now left.choice.value.part work.end) }
-        requires room { HasRoom self.old.rows (end_as p.now left.choice.value.part work.end) }
+        requires ordered { HasOrderedEnd (end_as p.now left.part.value work.end) }
+        requires room { HasRoom self.old.rows (end_as p.now left.part.value work.end) }
         requires end { CanEnd p.now left work.end }
         ensures ok { OnOk result (IsGiven p.now self.old self.new id work.steps work.end left) }
         ensures err { OnErr result (self.new ≡ self.old) }
@@ -242,7 +264,7 @@ impl Pool {
                 let end = tree_pool::WorkEnd::Shut(closing);
                 self.end(alloc, id, tree_pool::Work { steps, end })
             }
-            WorkEnd::Split(fork) => match children_of(alloc, p, &left.choice.part, fork)? {
+            WorkEnd::Split(fork) => match children_of(alloc, p, &left.part, fork)? {
                 Some(children) => self.split(alloc, id, steps, children, left),
                 None => Ok(()),
             },

@@ -1,22 +1,26 @@
 // Where the boxes of a pool come from that are still to be worked on.
-ghost use Rattle.std.specs.Prelude.{◌≡◌, IfOk};
+ghost use Rattle.std.specs.Prelude.{◌≡◌, IfOk, IfSome, option_map};
+ghost use Rattle.std.specs.Rc.{rc_value};
 ghost use Rattle.gas_model.specs.Choices.{PartFits};
 ghost use Rattle.topo.specs.Shapes.{IsShapeOf};
 ghost use Rattle.box_pool.specs.Origins.{part_by, bounds_by, turn_by, origin_of, origins_of, child_origins, CanPick, CanHalve, IsOrigin, IsViewOf};
 
-use crate::choice::{Choice, with_pick, with_state};
+use crate::choice::{with_pick, with_state};
 use crate::grid::PoolGrid;
 use box_core::VarBox;
-use gas_model::{NoMemory, Problem};
+use gas_model::{NoMemory, PartState, Problem};
 use std::alloc::Global;
 use std::rc::Rc;
+use topo::Shape;
 use tree_cert::Head;
 
-/// A box that was split, after its steps: what its children have in common.
+/// A box that was split, after its steps: what its children have in common. The shape is kept only where it is the
+/// children's own: their part state is that of the box then.
 #[derive(Drop)]
 pub struct Base {
-    pub choice: Rc<Choice>,
-    pub bounds: VarBox<PoolGrid>,
+    pub part: Rc<PartState>,
+    pub shape: Option<Rc<Shape>>,
+    pub bounds: Rc<VarBox<PoolGrid>>,
     pub next: u32,
 }
 
@@ -27,13 +31,16 @@ pub struct Spot {
     pub head: Option<Head>,
 }
 
-/// A box of a pool: its part state with the shape, the ends of its variables, and its turn, the place of the split list
-/// where the search for a variable to halve begins.
+/// A box of a pool: its part state, the shape of the network in it, the ends of its variables, its turn, the place of the
+/// split list where the search for a variable to halve begins, and its head, which the root hasn't. What it has in common
+/// with other boxes is shared with them. To change the ends, put others in their place.
 #[derive(Drop)]
 pub struct BoxView {
-    pub choice: Rc<Choice>,
-    pub bounds: VarBox<PoolGrid>,
+    pub part: Rc<PartState>,
+    pub shape: Rc<Shape>,
+    pub bounds: Rc<VarBox<PoolGrid>>,
     pub turn: u32,
+    pub head: Option<Head>,
 }
 
 /// Shares a value.
@@ -56,36 +63,58 @@ fn same<T: Drop>(value: &Rc<T>) -> Result<Rc<T>, NoMemory>
     }
 }
 
-// The part state of a child, with its shape.
-fn choice_by(
+// The part state of a child.
+fn part_by(
     alloc: Global,
     p: &Problem,
-    choice: &Rc<Choice>,
+    part: &Rc<PartState>,
     head: Option<Head>,
-) -> Result<Rc<Choice>, NoMemory>
-    requires shape { IsShapeOf p.now choice.now.value.part choice.now.value.shape }
-    requires picks { CanPick p.now choice.now.value.part head }
-    ensures part { IfOk result (λ c. c.value.part ≡ part_by choice.now.value.part head) }
-    ensures shape { IfOk result (λ c. IsShapeOf p.now c.value.part c.value.shape) }
+) -> Result<Rc<PartState>, NoMemory>
+    requires { CanPick p.now part.now.value head }
+    ensures { IfOk result (λ own. own.value ≡ part_by part.now.value head) }
 {
-    let part = match head {
-        Some(Head::Take { group, decision }) => with_pick(alloc, &choice.part, group, decision)?,
-        Some(Head::State { arc, state }) => with_state(alloc, &choice.part, arc, state)?,
-        Some(Head::Half { .. }) | None => return same(choice),
-    };
-    shared(alloc, Choice::of(alloc, p, part)?)
+    let _groups = p.groups();
+    match head {
+        Some(Head::Take { group, decision }) => {
+            shared(alloc, with_pick(alloc, part, group, decision)?)
+        }
+        Some(Head::State { arc, state }) => shared(alloc, with_state(alloc, part, arc, state)?),
+        Some(Head::Half { .. }) | None => same(part),
+    }
+}
+
+// The shape of a child with this part state: the one that is kept, or else it is worked out.
+fn shape_of(
+    alloc: Global,
+    p: &Problem,
+    kept: &Option<Rc<Shape>>,
+    part: &PartState,
+) -> Result<Rc<Shape>, NoMemory>
+    requires part { PartFits p.now part.now }
+    requires kept { IfSome (option_map rc_value kept.now) (IsShapeOf p.now part.now) }
+    ensures { IfOk result (λ shape. IsShapeOf p.now part.now shape.value) }
+{
+    match kept {
+        Some(shape) => same(shape),
+        None => shared(alloc, Shape::of(alloc, p, part)?),
+    }
 }
 
 // The ends of the variables of a child.
-fn bounds_by(bounds: &VarBox<PoolGrid>, head: Option<Head>) -> Result<VarBox<PoolGrid>, NoMemory>
-    requires { CanHalve bounds.now head }
-    ensures { IfOk result (λ b. b ≡ bounds_by bounds.now head) }
+fn bounds_by(
+    alloc: Global,
+    bounds: &Rc<VarBox<PoolGrid>>,
+    head: Option<Head>,
+) -> Result<Rc<VarBox<PoolGrid>>, NoMemory>
+    requires { CanHalve bounds.now.value head }
+    ensures { IfOk result (λ own. own.value ≡ bounds_by bounds.now.value head) }
 {
+    let Some(Head::Half { var, low, value }) = head else {
+        return same(bounds);
+    };
     let mut own = bounds.copy()?;
-    if let Some(Head::Half { var, low, value }) = head {
-        own.tighten(var, low, value);
-    }
-    Ok(own)
+    own.tighten(var, low, value);
+    shared(alloc, own)
 }
 
 // The turn of a child.
@@ -99,16 +128,19 @@ fn turn_by(next: u32, head: Option<Head>) -> u32
 }
 
 impl Spot {
-    /// The box. It copies the ends of the box that it comes from once.
+    /// The box. Of the ends of the box that it comes from it makes a copy only where it is a half.
     pub fn view(&self, alloc: Global, p: &Problem) -> Result<BoxView, NoMemory>
         requires { IsOrigin p.now (origin_of self.now) }
         ensures { IfOk result (IsViewOf p.now (origin_of self.now)) }
     {
         let base = &self.base;
+        let part = part_by(alloc, p, &base.part, self.head)?;
         Ok(BoxView {
-            choice: choice_by(alloc, p, &base.choice, self.head)?,
-            bounds: bounds_by(&base.bounds, self.head)?,
+            shape: shape_of(alloc, p, &base.shape, &part)?,
+            part,
+            bounds: bounds_by(alloc, &base.bounds, self.head)?,
             turn: turn_by(base.next, self.head),
+            head: self.head,
         })
     }
 }

@@ -132,6 +132,22 @@ fn look(pool: &Pool, alloc: Global, p: &Problem, n: u32) -> Result<BoxView, Fail
     Ok(view)
 }
 
+// The turn of a box that wasn't worked on, and the ends of a flow.
+fn shown(
+    pool: &Pool,
+    alloc: Global,
+    p: &Problem,
+    n: u32,
+    arc: u32,
+) -> Result<(u32, (i128, i128)), Fail>
+    requires id { n < length pool.now.rows }
+    requires fits { PoolFits p.now pool.now }
+    requires arc { arc < length p.now.arcs }
+{
+    let view = look(pool, alloc, p, n)?;
+    Ok((view.turn, view.bounds.ends(Var::Flow(arc))))
+}
+
 // Gives a held box back without steps, split by its fork, which has two children.
 fn split(pool: &mut Pool, alloc: Global, p: &Problem, n: u32) -> Result<Fork, Fail>
     requires held { IsHeld pool.old.rows n }
@@ -142,16 +158,10 @@ fn split(pool: &mut Pool, alloc: Global, p: &Problem, n: u32) -> Result<Fork, Fa
     ensures { OnOk result (PoolFits p.now pool.new) }
 {
     let view = look(pool, alloc, p, n)?;
-    let fork = branch(
-        p,
-        &view.choice.shape,
-        &view.choice.part,
-        &view.bounds,
-        view.turn,
-    );
+    let fork = branch(p, &view.shape, &view.part, &view.bounds, view.turn);
     forks_are_of_the_problem();
     forks_are_expected();
-    let Some(children) = children_of(alloc, p, &view.choice.part, fork)? else {
+    let Some(children) = children_of(alloc, p, &view.part, fork)? else {
         return Err(Fail::from("no variable is wide"));
     };
     if children.heads.as_slice().len() != 2 {
@@ -181,9 +191,7 @@ fn box_of_two_pipes_is_halved_at_the_chord(rt: HostRuntime) -> Result<(), Fail> 
     let p = two_pipes(alloc, List::new(alloc))?;
     let mut pool = begin(alloc, &p)?;
     take(&mut pool, &p, 0)?;
-    let root = look(&pool, alloc, &p, 0)?;
-    assert_eq!(rt; root.turn, 0);
-    assert_eq!(rt; root.bounds.ends(Var::Flow(1)), (-10, 10));
+    assert_eq!(rt; shown(&pool, alloc, &p, 0, 1)?, (0, (-10, 10)));
     let halves = Fork::Halve {
         var: Var::Flow(1),
         at: 0,
@@ -191,10 +199,8 @@ fn box_of_two_pipes_is_halved_at_the_chord(rt: HostRuntime) -> Result<(), Fail> 
     };
     assert_eq!(rt; split(&mut pool, alloc, &p, 0)?, halves);
     take(&mut pool, &p, 1)?;
-    let half = look(&pool, alloc, &p, 1)?;
-    assert_eq!(rt; half.turn, 1);
-    assert_eq!(rt; half.bounds.ends(Var::Flow(0)), (-10, 10));
-    assert_eq!(rt; half.bounds.ends(Var::Flow(1)), (-10, 0));
+    assert_eq!(rt; shown(&pool, alloc, &p, 1, 0)?, (1, (-10, 10)));
+    assert_eq!(rt; shown(&pool, alloc, &p, 1, 1)?, (1, (-10, 0)));
     assert_eq!(rt; pool.branched(), 1);
     assert_eq!(rt; pool.depth_of(1), 1);
     assert_eq!(rt; pool.line_of(1), 4);
@@ -217,10 +223,10 @@ fn decisions_are_picked_in_order(rt: HostRuntime) -> Result<(), Fail> {
     assert_eq!(rt; split(&mut pool, alloc, &p, 0)?, Fork::Group(0));
     take(&mut pool, &p, 1)?;
     let first = look(&pool, alloc, &p, 1)?;
-    assert_eq!(rt; first.choice.part.picks.as_slice(), [Some(0)].as_slice());
+    assert_eq!(rt; first.part.picks.as_slice(), [Some(0)].as_slice());
     take(&mut pool, &p, 2)?;
     let second = look(&pool, alloc, &p, 2)?;
-    assert_eq!(rt; second.choice.part.picks.as_slice(), [Some(1)].as_slice());
+    assert_eq!(rt; second.part.picks.as_slice(), [Some(1)].as_slice());
     assert_eq!(rt; second.turn, 0);
     assert!(rt; pool.look(alloc, &p, 0)?.is_none());
     Ok(())

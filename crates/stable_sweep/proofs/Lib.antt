@@ -6,3 +6,5 @@ pub mod SupplySums
 pub mod ComponentCuts
 pub mod StepCounts
 pub mod LawMoves
+pub mod Children
+pub mod LawQueues

@@ -1,8 +1,8 @@
 -- What a step does to the box, to the list of steps and to the laws that wait.
-use Rattle.std.proofs.Common.{◌≡◌, ◌⊎◌, ℕ, ◌+◌, ◌*◌, ◌<◌, ◌≤◌, ◌==◌, refl, sym, ap, ◌∙◌, subst, inl, inr, arith, ℤ, ◌≤ℤ◌, ◌<ℤ◌, Bool, true, false, ◌&&◌, IsTrue, List, [], ◌∷◌, ◌++◌, length, append_assoc, mul-le-mul_left, eqb-true}
+use Rattle.std.proofs.Common.{◌≡◌, ◌⊎◌, ℕ, ◌+◌, ◌*◌, ◌<◌, ◌≤◌, refl, sym, ap, ◌∙◌, subst, inl, inr, arith, ℤ, ◌≤ℤ◌, ◌<ℤ◌, Bool, true, false, ◌&&◌, IsTrue, List, [], ◌∷◌, ◌++◌, length, append_assoc, mul-le-mul_left}
 use Rattle.std.specs.Prelude.{nat_lt}
-use Rattle.std.proofs.lemmas.Bool.{cases_Bool, cases_eq, or_cases}
-use Rattle.std.proofs.lemmas.List.{length-set}
+use Rattle.std.proofs.lemmas.Bool.{cases_Bool, cases_eq}
+use Rattle.std.proofs.lemmas.List.{append-nil, length-set}
 use Rattle.integer_laws.proofs.Ring.{linear}
 use Rattle.gas_model.specs.declared.rows.Var.{Var}
 use Rattle.gas_model.specs.declared.rows.Var.TheVariants.{Flow, Square}
@@ -24,7 +24,7 @@ use Rattle.tight_steps.proofs.Boxes.{boxes_still_fit}
 use Rattle.tight_steps.proofs.Quiet.{other_laws_stay_quiet}
 use Rattle.stable_sweep.specs.Components.{Holds}
 use Rattle.stable_sweep.specs.Runs.{after, IsTurn, AreTurns, Extends}
-use Rattle.stable_sweep.specs.Waiting.{slot, KeepsHeld, PutsBack}
+use Rattle.stable_sweep.specs.Waiting.{slot, KeepsHeld, IsTaken, PutsBack}
 use Rattle.stable_sweep.specs.Widths.{total}
 use Rattle.stable_sweep.specs.Settling.{AreSettled, AreSettledBut, Falls}
 use Rattle.stable_sweep.proofs.Measures.{total_less}
@@ -37,6 +37,9 @@ after_append b (x ∷ xs) ys = after_append (stepped b x) xs ys
 turns_append : (p : Network) (b : PartBox) (xs ys : List Step) → AreTurns p b xs → AreTurns p (after b xs) ys → AreTurns p b (xs ++ ys)
 turns_append p b [] ys h k = k
 turns_append p b (x ∷ xs) ys h k = (h.0, turns_append p (stepped b x) xs ys h.1 k)
+
+pub extends_none : (p : Network) (b : PartBox) (out : List Step) → Extends p b b out out
+extends_none p b out = record { added = []; list = sym (append-nil out); turns = tt; box = refl }
 
 pub extends_trans : (p : Network) (b c d : PartBox) (out more most : List Step) → Extends p b c out more → Extends p c d more most → Extends p b d out most
 extends_trans p b c d out more most e f = record {
@@ -62,12 +65,12 @@ settled_more p b old new current s h k back = record { each = λ l i. one l i (h
           | inr n ↦ inr (inr (other_laws_stay_quiet p b l s.var s.low s.value n q))
         ]
 
--- the front law is taken
-pub settled_taken : (p : Network) (b : PartBox) (front : ℕ) (held : List ℕ) → AreSettled p b (front ∷ held) → AreSettledBut p b held front
-settled_taken p b front held s = record { each = λ l h. one l (s.each l h) }
+-- a law is taken out
+pub settled_taken : (p : Network) (b : PartBox) (front : ℕ) (old held : List ℕ) → AreSettled p b old → IsTaken front old held → AreSettledBut p b held front
+settled_taken p b front old held s t = record { each = λ l h. one l (s.each l h) }
   where
-    one : (l : Law) → (holds (slot (length p.nodes) l) (front ∷ held) ≡ true) ⊎ IsQuiet p b l → (holds (slot (length p.nodes) l) held ≡ true) ⊎ ((slot (length p.nodes) l ≡ front) ⊎ IsQuiet p b l)
-    one l (inl w) = elim (or_cases (slot (length p.nodes) l == front) (holds (slot (length p.nodes) l) held) w) [ inl e ↦ inr (inl (eqb-true (slot (length p.nodes) l) front e)) | inr r ↦ inl r ]
+    one : (l : Law) → (holds (slot (length p.nodes) l) old ≡ true) ⊎ IsQuiet p b l → (holds (slot (length p.nodes) l) held ≡ true) ⊎ ((slot (length p.nodes) l ≡ front) ⊎ IsQuiet p b l)
+    one l (inl w) = elim (t.rest (slot (length p.nodes) l) w) [ inl e ↦ inr (inl e) | inr h ↦ inl h ]
     one l (inr q) = inr (inr q)
 
 -- ---- variables
@@ -92,7 +95,7 @@ one_var (Flow i) (Square j) = inr (λ e. cc)
 one_var (Square i) (Flow j) = inr (λ e. cc)
 one_var (Square i) (Square j) = elim (cases_eq j i) [ inl e ↦ inl (ap Square e) | inr n ↦ inr (λ e. n (cc)) ]
 
-filled_more : (b : Bounds) (v : Var) (low : Bool) (C : ℤ) → LeavesAll b → (ends_of (tightened b v low C) v).lo ≤ℤ (ends_of (tightened b v low C) v).hi → LeavesAll (tightened b v low C)
+pub filled_more : (b : Bounds) (v : Var) (low : Bool) (C : ℤ) → LeavesAll b → (ends_of (tightened b v low C) v).lo ≤ℤ (ends_of (tightened b v low C) v).hi → LeavesAll (tightened b v low C)
 filled_more b v low C all here w i =
     elim (one_var v w) [
       | inl e ↦ subst (λ (x : Var). (ends_of (tightened b v low C) x).lo ≤ℤ (ends_of (tightened b v low C) x).hi) (sym e) here
@@ -145,9 +148,9 @@ pub falls_more : (before then now : ℕ) (old held new : List ℕ) → Falls bef
 falls_more before then now old held new (inl h) k = inl (omega (arith, h, k))
 falls_more before then now old held new (inr h) k = inl (omega (arith, h.0, k))
 
-measure_less : (size before now front : ℕ) (old held : List ℕ) → Falls before now old held → length held ≤ size → now * (size + 1) + length held < before * (size + 1) + length (front ∷ old)
-measure_less size before now front old held (inl h) k = let p = mul-le-mul_left (size + 1) (let q : now + 1 ≤ before = omega (arith, h) in q) in omega (arith, p, k)
-measure_less size before now front old held (inr h) k = let p : length held ≡ length old = ap length h.1 in omega (arith, p, ap (λ (n : ℕ). n * (size + 1)) h.0)
+measure_less : (size before now : ℕ) (all old held : List ℕ) → Falls before now old held → length old < length all → length held ≤ 2 * size → now * (2 * size + 1) + length held < before * (2 * size + 1) + length all
+measure_less size before now all old held (inl h) less few = let p = mul-le-mul_left (2 * size + 1) (let q : now + 1 ≤ before = omega (arith, h) in q) in omega (arith, p, few)
+measure_less size before now all old held (inr h) less few = let p : length held ≡ length old = ap length h.1 in omega (arith, p, less, ap (λ (n : ℕ). n * (2 * size + 1)) h.0)
 
-pub laws_smaller : (size rest before now front : ℕ) (all old held : List ℕ) → rest ≡ size → all ≡ front ∷ old → Falls before now old held → length held ≤ rest → now * (rest + 1) + length held < before * (size + 1) + length all
-laws_smaller size rest before now front all old held e f h k = rw (f, ← e) (measure_less rest before now front old held h k)
+pub laws_smaller : (size rest before now : ℕ) (all old held : List ℕ) → rest ≡ size → length old < length all → Falls before now old held → length held ≤ 2 * rest → now * (2 * rest + 1) + length held < before * (2 * size + 1) + length all
+laws_smaller size rest before now all old held e less f few = rw (← e) (measure_less rest before now all old held f less few)

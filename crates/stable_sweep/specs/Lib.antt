@@ -5,4 +5,5 @@ pub mod Runs
 pub mod Waiting
 pub mod Widths
 pub mod Settling
+pub mod Children
 pub mod Paths

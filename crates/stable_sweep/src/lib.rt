@@ -3,12 +3,15 @@
 
 mod counts;
 mod cuts;
+mod law_queue;
 mod laws;
 mod sweep;
 mod waiting;
+mod waking;
 
 pub use counts::steps_are_few;
-pub use sweep::{Settled, settle};
+pub use law_queue::LawQueue;
+pub use sweep::{Settled, settle, settle_child};
 
 #[cfg(test)]
 mod tests;

@@ -1,9 +1,8 @@
 // Two nodes joined by pipes, settled by hand.
-use crate::{Settled, settle, steps_are_few};
+use crate::{LawQueue, Settled, settle, steps_are_few};
 use box_core::VarBox;
 use gas_model::{ArcKind, ArcText, Drag, List, Name, NoMemory, NodeRow, Problem, Rows, Var};
 use interval_core::Ones;
-use link_queue::LinkQueue;
 use std::alloc::Global;
 use std::test::Fail;
 use topo::Shape;
@@ -74,9 +73,7 @@ fn settled(alloc: Global, p: &Problem) -> Result<(List<Step>, Settled), Fail> {
     let shape = Shape::of(alloc, p, &part)?;
     let mut b = VarBox::<Ones>::opening(alloc, p)?;
     let slots = (p.nodes().len() + p.arcs().len()) as u32;
-    let Ok(mut queue) = LinkQueue::new(alloc, slots) else {
-        return Err(Fail::from("no memory"));
-    };
+    let mut queue = LawQueue::new(alloc, slots)?;
     let mut out = List::new(alloc);
     let end = settle(alloc, p, &shape, &part, &mut b, &mut queue, &mut out)?;
     Ok((out, end))
@@ -149,6 +146,22 @@ fn node_alone_that_wants_a_flow_is_cut_off(rt: HostRuntime) -> Result<(), Fail> 
         return Err(Fail::from("no cut"));
     };
     assert!(rt; nodes.as_slice() == [1].as_slice());
+    Ok(())
+}
+
+// Of 3 laws 2 and 0 wait: 0 comes first. It is put back after its turn, and 1 before its own: 0 comes last.
+#[test]
+fn law_put_back_after_its_turn_comes_behind_the_round(rt: HostRuntime) -> Result<(), Fail> {
+    let mut queue = LawQueue::new(rt.alloc(), 3)?;
+    queue.put(2);
+    queue.put(0);
+    assert_eq!(rt; queue.take(), Some(0));
+    queue.put(0);
+    queue.put(1);
+    assert_eq!(rt; queue.take(), Some(1));
+    assert_eq!(rt; queue.take(), Some(2));
+    assert_eq!(rt; queue.take(), Some(0));
+    assert_eq!(rt; queue.take(), None);
     Ok(())
 }
 

@@ -1,18 +1,18 @@
-// The queue of the laws that wait.
+// The laws that a variable wakes.
 ghost use Rattle.std.specs.Prelude.{◌≡◌, ◌<◌, ◌+◌, length, true, IsTrue, if◌then◌else◌};
 ghost use Rattle.gas_model.specs.declared.rows.Var.TheVariants as var;
 ghost use Rattle.gas_model.specs.Boxes.{is_var};
 ghost use Rattle.gas_model.specs.Choices.{PartFits};
 ghost use Rattle.box_rules.specs.ArcSides.{law_of_form};
 ghost use Rattle.tree_rules.specs.ArcRules.{OfFlow, OfFrom};
-ghost use Rattle.link_queue.specs.Queue.{holds, IsQueue};
+ghost use Rattle.link_queue.specs.Queue.{holds};
 ghost use Rattle.tight_steps.specs.Moves.{is_law};
 ghost use Rattle.tight_steps.specs.Mentions.{form_mentions};
-ghost use Rattle.stable_sweep.specs.Waiting.{slot, arc_mentions, HoldsAll, KeepsHeld, PutsArc, PutsBack};
+ghost use Rattle.stable_sweep.specs.Waiting.{slot, arc_mentions, IsFew, KeepsHeld, PutsArc, PutsBack};
 
+use crate::law_queue::LawQueue;
 use box_rules::{Form, fixed_form};
 use gas_model::{PartState, Problem, Var};
-use link_queue::LinkQueue;
 use tight_steps::Law;
 
 /// The law in a slot: the nodes' in order, and then the arcs'.
@@ -29,30 +29,17 @@ pub fn law_in(p: &Problem, place: u32) -> Law
     }
 }
 
-/// Takes all laws out, and then puts each in, in the order of their slots.
-pub fn refill(queue: &mut LinkQueue, size: u32)
-    requires { queue.old.size ≡ size }
-    ensures size { queue.new.size ≡ size }
-    ensures queue { IsQueue queue.new }
-    ensures all { HoldsAll size queue.new.held }
-{
-    'drain: while queue.pop_front().is_some() {}
-    for slot in 0..size {
-        queue.push_back(slot);
-    }
-}
-
 // Puts a slot at the back, but for that of the law that is tried.
-fn put(queue: &mut LinkQueue, slot: u32, current: u32)
+fn put(queue: &mut LawQueue, slot: u32, current: u32)
     requires slot { slot < queue.old.size }
-    requires queue { IsQueue queue.old }
+    requires few { IsFew queue.old }
     ensures size { queue.new.size ≡ queue.old.size }
-    ensures queue { IsQueue queue.new }
+    ensures few { IsFew queue.new }
     ensures kept { KeepsHeld queue.old.held queue.new.held }
     ensures put { (slot ≡ current → ⊥) → holds slot queue.new.held ≡ true }
 {
     if slot != current {
-        queue.push_back(slot);
+        queue.put(slot);
     }
 }
 
@@ -84,7 +71,7 @@ fn arc_mentions(p: &Problem, state: &PartState, arc: u32, flow: bool) -> bool
 fn put_back_arc(
     p: &Problem,
     state: &PartState,
-    queue: &mut LinkQueue,
+    queue: &mut LawQueue,
     arc: u32,
     flow: bool,
     current: u32,
@@ -92,9 +79,9 @@ fn put_back_arc(
     requires part { PartFits p.now state.now }
     requires arc { arc < length p.now.arcs }
     requires size { queue.old.size ≡ length p.now.nodes + length p.now.arcs }
-    requires queue { IsQueue queue.old }
+    requires few { IsFew queue.old }
     ensures size { queue.new.size ≡ queue.old.size }
-    ensures queue { IsQueue queue.new }
+    ensures few { IsFew queue.new }
     ensures kept { KeepsHeld queue.old.held queue.new.held }
     ensures put { PutsArc p.now state.now flow current arc queue.new.held }
 {
@@ -104,13 +91,13 @@ fn put_back_arc(
 }
 
 // Puts back each other law that mentions the flow of an arc.
-fn put_back_flow(p: &Problem, state: &PartState, queue: &mut LinkQueue, arc: u32, current: u32)
+fn put_back_flow(p: &Problem, state: &PartState, queue: &mut LawQueue, arc: u32, current: u32)
     requires part { PartFits p.now state.now }
     requires arc { arc < length p.now.arcs }
     requires size { queue.old.size ≡ length p.now.nodes + length p.now.arcs }
-    requires queue { IsQueue queue.old }
+    requires few { IsFew queue.old }
     ensures size { queue.new.size ≡ queue.old.size }
-    ensures queue { IsQueue queue.new }
+    ensures few { IsFew queue.new }
     ensures kept { KeepsHeld queue.old.held queue.new.held }
     ensures put { PutsBack p.now state.now (var.Flow arc) current queue.new.held }
 {
@@ -123,13 +110,13 @@ fn put_back_flow(p: &Problem, state: &PartState, queue: &mut LinkQueue, arc: u32
 }
 
 // Puts back each other law that mentions the square of a node.
-fn put_back_square(p: &Problem, state: &PartState, queue: &mut LinkQueue, node: u32, current: u32)
+fn put_back_square(p: &Problem, state: &PartState, queue: &mut LawQueue, node: u32, current: u32)
     requires part { PartFits p.now state.now }
     requires node { node < length p.now.nodes }
     requires size { queue.old.size ≡ length p.now.nodes + length p.now.arcs }
-    requires queue { IsQueue queue.old }
+    requires few { IsFew queue.old }
     ensures size { queue.new.size ≡ queue.old.size }
-    ensures queue { IsQueue queue.new }
+    ensures few { IsFew queue.new }
     ensures kept { KeepsHeld queue.old.held queue.new.held }
     ensures put { PutsBack p.now state.now (var.Square node) current queue.new.held }
 {
@@ -139,13 +126,13 @@ fn put_back_square(p: &Problem, state: &PartState, queue: &mut LinkQueue, node: 
 }
 
 /// Puts back each other law that mentions the variable, in the order of their slots.
-pub fn put_back(p: &Problem, state: &PartState, queue: &mut LinkQueue, var: Var, current: u32)
+pub fn put_back(p: &Problem, state: &PartState, queue: &mut LawQueue, var: Var, current: u32)
     requires part { PartFits p.now state.now }
     requires var { IsTrue (is_var p.now var) }
     requires size { queue.old.size ≡ length p.now.nodes + length p.now.arcs }
-    requires queue { IsQueue queue.old }
+    requires few { IsFew queue.old }
     ensures size { queue.new.size ≡ queue.old.size }
-    ensures queue { IsQueue queue.new }
+    ensures few { IsFew queue.new }
     ensures kept { KeepsHeld queue.old.held queue.new.held }
     ensures put { PutsBack p.now state.now var current queue.new.held }
 {

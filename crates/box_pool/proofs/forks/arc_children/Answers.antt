@@ -1,9 +1,7 @@
-use Rattle.std.proofs.Common.{◌≡◌, ◌<◌, length, refl, ap, sym, ◌∙◌, arith, map, List}
-use Rattle.std.specs.Prelude.{slice_get, Some, get_or, []}
+use Rattle.std.proofs.Common.{refl, ap, sym, ◌∙◌, map}
+use Rattle.std.specs.Prelude.{get_or, []}
 use Rattle.std.specs.Option.{option_map_or}
 use Rattle.std.proofs.lemmas.Option.{slice_get-get_or}
-use Rattle.gas_model.specs.declared.rows.ArcRow.{ArcRow}
-use Rattle.gas_model.specs.Choices.{allowed_states}
 use Rattle.tree_cert.specs.declared.line.Head.TheVariants.{State}
 use Rattle.box_pool.specs.Forks.{state_heads}
 use Rattle.topo.specs.Graphs.{no_arc}

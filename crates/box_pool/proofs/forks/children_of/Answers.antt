@@ -1,5 +1,4 @@
-use Rattle.std.proofs.Common.{◌≡◌, subst, sym}
-use Rattle.box_split.specs.declared.forks.Fork.TheVariants as forks
+use Rattle.std.proofs.Common.{subst, sym}
 use Rattle.box_pool.specs.Forks.{AreChildren}
 use Rattle.box_pool.proofs.forks.children_of.Goals as goal
 

@@ -1,5 +1,5 @@
-use Rattle.std.proofs.Common.{◌≡◌, ◌<◌, ◌≤◌, ◌^◌, length, ap, sym, ◌∙◌, arith, Fits, w32}
-use Rattle.std.specs.Prelude.{slice_get, Some, get_or}
+use Rattle.std.proofs.Common.{◌≡◌, length, ap, ◌∙◌, arith}
+use Rattle.std.specs.Prelude.{get_or}
 use Rattle.gas_model.specs.declared.rows.Group.{Group}
 use Rattle.box_pool.proofs.Decisions.{read_at, few_decisions}
 use Rattle.box_pool.proofs.forks.count_decisions.Goals as goal

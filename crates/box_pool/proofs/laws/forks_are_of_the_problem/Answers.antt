@@ -1,4 +1,4 @@
-use Rattle.std.proofs.Common.{◌≡◌, subst, sym}
+use Rattle.std.proofs.Common.{subst, sym}
 use Rattle.box_pool.specs.Forks.{IsForkOf}
 use Rattle.box_pool.proofs.ForkOf.{fork_is_of}
 use Rattle.box_pool.proofs.laws.forks_are_of_the_problem.Goals as goal

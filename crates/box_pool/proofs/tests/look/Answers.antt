@@ -1,4 +1,4 @@
-use Rattle.std.proofs.Common.{◌≡◌, subst, ap, ◌∙◌, Some, sym}
+use Rattle.std.proofs.Common.{subst}
 use Rattle.std.specs.Prelude.{Option}
 use Rattle.box_pool.specs.declared.spot.BoxView.{BoxView}
 use Rattle.box_pool.specs.Pools.{Looks}

@@ -1,4 +1,4 @@
-use Rattle.std.proofs.Common.{◌≡◌, ℕ, List, length, ap, subst, sym, ◌∙◌}
+use Rattle.std.proofs.Common.{ℕ, List, length, ap, subst, sym, ◌∙◌}
 use Rattle.tree_pool.specs.Rows.{Row, Held, stand}
 use Rattle.tree_pool.specs.Calls.{IsHeld}
 use Rattle.tree_pool.proofs.Lists.{length-update}

@@ -1,8 +1,5 @@
 use Rattle.stable_sweep.proofs.Sweeps.{crossed_holds}
 use Rattle.stable_sweep.proofs.sweep.first_shut.Goals as goal
 
-pub first_cut-requires : goal.first_cut-requires
-first_cut-requires g c = (c.args.state.now, c.requires.shape)
-
 pub returns-in-Some-clause-some : goal.returns-in-Some-clause-some
-returns-in-Some-clause-some g c = crossed_holds _ _ _ _ _ c.requires.bounds c.in-Some.ensures.some
+returns-in-Some-clause-some g c = crossed_holds _ _ _ _ _ c.requires.bounds c.in-Some.ensures

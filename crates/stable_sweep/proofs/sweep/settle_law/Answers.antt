@@ -41,7 +41,7 @@ steps-preserved g c =
     record {
       bounds = t.fits;
       size = c.put_back.ensures.size ∙ c.steps.invariant.size;
-      queue = c.put_back.ensures.queue;
+      few = c.put_back.ensures.few;
       filled = t.filled (sym c.is_empty.ensures ∙ c.if-is_empty.false);
       extends = t.extends _ _ c.steps.invariant.extends;
       falls = falls_more _ _ _ _ _ _ c.steps.invariant.falls t.less;

@@ -9,7 +9,7 @@ put_back_arc-requires-clause-arc c = arc_within c.args.p.now.arcs c.args.node c.
 pub loop-arc-preserved : goal.loop-arc-preserved
 loop-arc-preserved c = record {
   size = c.put_back_arc.ensures.size ∙ c.loop-arc.invariant.size;
-  queue = c.put_back_arc.ensures.queue;
+  few = c.put_back_arc.ensures.few;
   kept = λ i h. c.put_back_arc.ensures.kept i (c.loop-arc.invariant.kept i h);
   put = puts_more _ _ _ _ _ _ _ c.loop-arc.invariant.put c.put_back_arc.ensures.kept c.put_back_arc.ensures.put;
 }

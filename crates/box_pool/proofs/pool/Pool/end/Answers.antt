@@ -1,4 +1,4 @@
-use Rattle.std.proofs.Common.{◌≡◌, sym, ap, ◌∙◌, length, length-set}
+use Rattle.std.proofs.Common.{sym, ap, ◌∙◌, length-set}
 use Rattle.std.specs.Prelude.{slice_set, None}
 use Rattle.box_pool.specs.Pools.{Boxed}
 use Rattle.box_pool.proofs.Pooled.{given_length, origins_set}

@@ -1,4 +1,4 @@
-use Rattle.std.proofs.Common.{◌≡◌, refl, Some, None}
+use Rattle.std.proofs.Common.{Some, None}
 use Rattle.box_pool.specs.Origins.{origin_of}
 use Rattle.box_pool.proofs.Pooled.{there}
 use Rattle.box_pool.proofs.pool.Pool.look.Goals as goal

@@ -1,4 +1,4 @@
-use Rattle.std.proofs.Common.{◌≡◌, sym, ap, ◌∙◌, length}
+use Rattle.std.proofs.Common.{sym, ap, ◌∙◌, length}
 use Rattle.tree_pool.specs.Rows.{Waiting, stand}
 use Rattle.tree_pool.proofs.Lists.{length-update}
 use Rattle.box_pool.proofs.pool.Pool.lose.Goals as goal

@@ -1,4 +1,4 @@
-use Rattle.std.proofs.Common.{◌≡◌, sym, ◌∙◌}
+use Rattle.std.proofs.Common.{sym, ◌∙◌}
 use Rattle.box_pool.proofs.Pooled.{took_length}
 use Rattle.box_pool.proofs.pool.Pool.take.Goals as goal
 
