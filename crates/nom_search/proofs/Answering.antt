@@ -30,7 +30,7 @@ use Rattle.nom_search.specs.declared.searching.Outcome.TheVariants as outcome
 -- ---- a new pool
 
 abbrev first_origin : (p : Network) (root : PartBox) (pool : Boxed) → Begins p root pool → Origin
-first_origin p root pool b = record { part = root.part; shape = b.new.shape; bounds = root.bounds; next = 0; head = None }
+first_origin p root pool b = record { part = root.part; shape = Some b.new.shape; bounds = root.bounds; next = 0; head = None }
 
 only : {A : Type 0} (x y : A) (n : ℕ) → slice_get (x ∷ []) n ≡ Some y → (n ≡ 0) × (y ≡ x)
 only x y zero h = (refl, cc)
@@ -55,6 +55,11 @@ begins_searched p tol root budget pool b =
       worked = subst (λ (rs : List Row). IsWorked (sought p tol) root budget rs (root ∷ []) (0 ∷ [])) (sym rows) (search_begins (sought p tol) root budget);
       origins = record {
         fits = fits;
+        stable = λ n q h x e.
+            let z = only (Some o) (Some q) n (let a = origins in rw a at h) in
+            let same : q ≡ o = (let a = z.1 in cc) in
+            let none : None ≡ Some x = sym (ap (λ (y : Origin). y.head) same) ∙ e in
+            absurd cc;
         count = ap length origins ∙ sym (ap length rows);
         each = λ n r h waits.
             let z = only first_row r n (let a = rows in rw a at h) in
@@ -124,6 +129,9 @@ answers_are p tol root budget pool (outcome.Dry None) f e h =
     let t = (show_one_tree pool.rows map).0 in
     subst (Answers p tol root budget pool) (sym h.1)
     (record {
+      boxes = e.0.boxes;
+      turns = e.0.turns;
+      worked = e.0.worked;
       tree = t.0;
       is_text = record { shows = t.1; lines = h.2 t.0 t.1 };
       passes = shown_pass (rules_of p) root pool.rows e.0.boxes map e.0.worked.pool t.0 t.1;

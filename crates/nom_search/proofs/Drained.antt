@@ -34,7 +34,7 @@ use Rattle.tree_pool.proofs.Ruled.{standing_keeps}
 use Rattle.search_order.proofs.Given.{waiting_whole}
 use Rattle.nom_search.specs.Halted.{IsStillOf}
 use Rattle.nom_search.specs.Sought.{sought, IsLeast}
-use Rattle.nom_search.specs.Searched.{box_of_view, IsSearched, IsStopped, IsWork, IsUnpaid, Turns}
+use Rattle.nom_search.specs.Searched.{box_of_view, AreOfStable, IsSearched, IsStopped, IsWork, IsUnpaid, Turns}
 use Rattle.nom_search.specs.declared.searching.Turn.{Turn}
 use Rattle.nom_search.specs.declared.searching.Turn.TheVariants as kinds
 use Rattle.nom_search.proofs.Turned.{kids_by, next_by, turn, searched_after}
@@ -77,22 +77,25 @@ module _ (p : Network) (within : IsWithin p) (tol : ℤ) (budget : ℕ) (old tak
     pub taken_fits : PoolFits p taken
     taken_fits = λ m o h. searched.origins.fits m o (let a = same_origins in rw a at h)
 
+    pub taken_stable : AreOfStable p taken
+    taken_stable = λ m o h. searched.origins.stable m o (let a = same_origins in rw a at h)
+
     pub taken_origin : (o : Origin) × (slice_get taken.origins n ≡ Some (Some o))
     taken_origin = let z = searched.origins.each n first.row first.here first.waits in (z.0, (let a = same_origins in rw a z.1))
 
     module _ (new : Boxed) (end : WorkEnd) (w : IsWork p tol budget taken new n end) where
       pub shrinks : (remains 1024 budget new.rows < remains 1024 budget old.rows) × (splits new.rows ≤ budget) × (length new.rows + 1024 * (budget - splits new.rows) ≤ length old.rows + 1024 * (budget - splits old.rows))
       shrinks =
-          turns_shrink (sought p tol) root 1024 budget old.rows searched.boxes searched.turns new.rows (searched.boxes ++ map (λ k. k.1) (kids_by p w.view end)) (searched.turns ++ repeated (length (kids_by p w.view end)) (next_by end)) n (end_as p w.view.choice.value.part end) first
+          turns_shrink (sought p tol) root 1024 budget old.rows searched.boxes searched.turns new.rows (searched.boxes ++ map (λ k. k.1) (kids_by p w.view end)) (searched.turns ++ repeated (length (kids_by p w.view end)) (next_by end)) n (end_as p w.view.part.value end) first
           (turn p within tol root budget old taken new n end searched first rows_taken same_origins w)
 
-      pub quits : (quit : Option ℕ) → FirstQuit old.rows quit → FirstQuit new.rows (quit_then quit n (end_as p w.view.choice.value.part end))
+      pub quits : (quit : Option ℕ) → FirstQuit old.rows quit → FirstQuit new.rows (quit_then quit n (end_as p w.view.part.value end))
       quits quit h =
-          first_quit_stays (sought p tol) root 1024 budget old.rows searched.boxes searched.turns new.rows (searched.boxes ++ map (λ k. k.1) (kids_by p w.view end)) (searched.turns ++ repeated (length (kids_by p w.view end)) (next_by end)) n (end_as p w.view.choice.value.part end) quit searched.worked first
+          first_quit_stays (sought p tol) root 1024 budget old.rows searched.boxes searched.turns new.rows (searched.boxes ++ map (λ k. k.1) (kids_by p w.view end)) (searched.turns ++ repeated (length (kids_by p w.view end)) (next_by end)) n (end_as p w.view.part.value end) quit searched.worked first
           (turn p within tol root budget old taken new n end searched first rows_taken same_origins w) h
 
       pub quits_not : end ≢ Left → (quit : Option ℕ) → FirstQuit old.rows quit → FirstQuit new.rows quit
-      quits_not ne quit h = subst (λ (o : Option ℕ). FirstQuit new.rows o) (quit_same quit n (end_as p w.view.choice.value.part end) (other_end p w.view.choice.value.part end ne)) (quits quit h)
+      quits_not ne quit h = subst (λ (o : Option ℕ). FirstQuit new.rows o) (quit_same quit n (end_as p w.view.part.value end) (other_end p w.view.part.value end ne)) (quits quit h)
 
       pub searched_on : IsSearched p tol root budget new
       searched_on = searched_after p within tol root budget old taken new n end searched first rows_taken same_origins w
@@ -131,8 +134,8 @@ module _ (p : Network) (within : IsWithin p) (tol : ℤ) (budget : ℕ) (old tak
       where
         not_least : IsLeast p u.view.turn (box_of_view u.view) → ⊥
         not_least least =
-            let s = one_shape p u.view.choice.value.part least.shape u.has.shape least.is_shape u.has.is_shape in
-            u.wide (u.has.fork_is ∙ ap (λ (k : Layout). fork_of p k.split_list u.view.choice.value.part u.view.bounds u.view.turn) (sym s) ∙ sym least.fork_is)
+            let s = one_shape p u.view.part.value least.shape u.has.shape least.is_shape u.has.is_shape in
+            u.wide (u.has.fork_is ∙ ap (λ (k : Layout). fork_of p k.split_list u.view.part.value u.view.bounds.value u.view.turn) (sym s) ∙ sym least.fork_is)
 
 -- ---- the pool is still of its root
 

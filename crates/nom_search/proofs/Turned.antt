@@ -17,6 +17,8 @@ use Rattle.tree_cert.specs.TreeRules.{Holds}
 use Rattle.tree_cert.proofs.Options.{holds_some}
 use Rattle.tree_rules.specs.Rules.{PartBox}
 use Rattle.tree_rules.specs.Branches.{headed, rules_of, decision_heads}
+use Rattle.tree_pool.specs.declared.node.BranchBy.{BranchBy}
+use Rattle.tree_pool.specs.declared.node.BranchBy.TheVariants as by
 use Rattle.tree_pool.specs.declared.node.WorkEnd as tree
 use Rattle.tree_pool.specs.Rows.{Row, Waiting, Held, update, stand, fill, after, splits, IsFirstWaiting}
 use Rattle.tree_pool.specs.Laws.{EndFits}
@@ -32,22 +34,24 @@ use Rattle.search_order.proofs.Counts.{new_is}
 use Rattle.search_order.proofs.Grown.{turns_keep}
 use Rattle.box_pool.specs.declared.pool.WorkEnd.{WorkEnd}
 use Rattle.box_pool.specs.declared.pool.WorkEnd.TheVariants.{Shut, Split, Left}
+use Rattle.box_pool.specs.declared.spot.Base.{Base}
 use Rattle.box_pool.specs.declared.spot.BoxView.{BoxView}
 use Rattle.box_pool.specs.Grid.{pool_scale}
-use Rattle.box_pool.specs.Forks.{heads_of, next_of, state_heads}
+use Rattle.box_pool.specs.Forks.{by_of, heads_of, next_of, state_heads}
 use Rattle.box_pool.specs.Expected.{kids_of}
 use Rattle.box_pool.specs.Origins.{Origin, box_of, turn_of, turn_by, origin_by, IsOrigin}
 use Rattle.box_pool.specs.Pools.{Boxed, PoolFits, ViewFits, end_as, base_of, new_origins}
 use Rattle.box_pool.proofs.Forked.{forks_are_expected}
+use Rattle.box_pool.proofs.StillFits.{kept_shape}
 use Rattle.nom_search.specs.Sought.{sought}
-use Rattle.nom_search.specs.Searched.{box_of_view, IsSearched, IsEnd, IsWork}
+use Rattle.nom_search.specs.Searched.{box_of_view, IsOfStable, AreOfStable, IsSearched, IsEnd, IsWork}
 use Rattle.nom_search.proofs.Runs.{few_heads}
 
 -- ---- the children of a view
 
 abbrev pub kids_by : Network → BoxView → WorkEnd → List (Head × PartBox)
 kids_by p v (Shut c) = []
-kids_by p v (Split fork) = kids_of (box_of_view v) (heads_of p v.choice.value.part fork)
+kids_by p v (Split fork) = kids_of (box_of_view v) (heads_of p v.part.value fork)
 kids_by p v Left = []
 
 abbrev pub next_by : WorkEnd → ℕ
@@ -55,17 +59,26 @@ next_by (Shut c) = 0
 next_by (Split fork) = next_of fork
 next_by Left = 0
 
+-- where the children come from
+abbrev branch_by : WorkEnd → BranchBy
+branch_by (Shut c) = by.Group 0
+branch_by (Split fork) = by_of fork
+branch_by Left = by.Group 0
+
+abbrev base_by : BoxView → WorkEnd → Base
+base_by v end = base_of v (branch_by end) (next_by end)
+
 first_of_kids : (b : PartBox) (heads : List Head) → heads ≡ map (λ (k : Head × PartBox). k.0) (kids_of b heads)
 first_of_kids b [] = refl
 first_of_kids b (h ∷ heads) = ap (λ hs. h ∷ hs) (first_of_kids b heads)
 
 abbrev box_end : Network → BoxView → WorkEnd → tree.WorkEnd
-box_end p v end = end_as p v.choice.value.part end
+box_end p v end = end_as p v.part.value end
 
 pub end_fits : (p : Network) (tol : ℤ) (v : BoxView) (end : WorkEnd) → IsWithin p → ViewFits p v → IsEnd p tol v end → EndFits (rules_of p) (box_of_view v) (box_end p v end) (kids_by p v end)
 end_fits p tol v (Shut c) within fits known = (known, refl)
 end_fits p tol v (Split fork) within fits known =
-    ((forks_are_expected p pool_scale v.choice.value.part v.bounds v.turn fork within fits.part fits.bounds known.1 known.2).0, first_of_kids (box_of_view v) (heads_of p v.choice.value.part fork))
+    ((forks_are_expected p pool_scale v.part.value v.bounds.value v.turn fork within fits.part fits.bounds known.1 known.2).0, first_of_kids (box_of_view v) (heads_of p v.part.value fork))
 end_fits p tol v Left within fits known = refl
 
 pub end_known : (p : Network) (tol : ℤ) (v : BoxView) (end : WorkEnd) → IsEnd p tol v end → EndKnown (sought p tol) (box_end p v end) v.turn (box_of_view v) (next_by end)
@@ -76,17 +89,17 @@ end_known p tol v Left known = known
 pub few_kids : (p : Network) (v : BoxView) (end : WorkEnd) → IsWithin p → length (kids_by p v end) ≤ 1024 * splits_by (box_end p v end)
 few_kids p v (Shut c) within = omega arith
 few_kids p v (Split fork) within =
-    let a = few_heads p v.choice.value.part fork within in
-    let b : length (kids_by p v (Split fork)) ≡ length (heads_of p v.choice.value.part fork) = length-map (heads_of p v.choice.value.part fork) (λ (h : Head). (h, headed (box_of_view v) h)) in
+    let a = few_heads p v.part.value fork within in
+    let b : length (kids_by p v (Split fork)) ≡ length (heads_of p v.part.value fork) = length-map (heads_of p v.part.value fork) (λ (h : Head). (h, headed (box_of_view v) h)) in
     omega arith
 few_kids p v Left within = omega arith
 
 -- ---- where children come from
 
-headed_box : (v : BoxView) (next : ℕ) (h : Head) → headed (box_of_view v) h ≡ box_of pool_scale (origin_by (base_of v next) (Some h))
-headed_box v next (Take k j) = refl
-headed_box v next (State a s) = refl
-headed_box v next (Half w low C) = refl
+headed_box : (v : BoxView) (end : WorkEnd) (h : Head) → headed (box_of_view v) h ≡ box_of pool_scale (origin_by (base_by v end) (Some h))
+headed_box v end (Take k j) = refl
+headed_box v end (State a s) = refl
+headed_box v end (Half w low C) = refl
 
 -- what stands at a place of a mapped list
 from_map : {A B : Type 0} (f : A → B) (xs : List A) (k : ℕ) (y : B) → slice_get (map f xs) k ≡ Some y → (x : A) × (slice_get xs k ≡ Some x) × (f x ≡ y)
@@ -119,7 +132,7 @@ turn_of_head p part Least i h at = absurd cc
 record Comes (p : Network) (v : BoxView) (end : WorkEnd) (k : ℕ) (h : Head) : Type 0 where
   pub fork : Fork
   pub is : end ≡ Split fork
-  pub at : slice_get (heads_of p v.choice.value.part fork) k ≡ Some h
+  pub at : slice_get (heads_of p v.part.value fork) k ≡ Some h
 
 comes : (p : Network) (v : BoxView) (end : WorkEnd) (k : ℕ) (h : Head) → slice_get (heads_by (box_end p v end)) k ≡ Some h → Comes p v end k h
 comes p v (Shut c) k h at = absurd cc
@@ -128,7 +141,7 @@ comes p v Left k h at = absurd cc
 
 count_kids : (p : Network) (v : BoxView) (end : WorkEnd) → length (new_origins p v end) ≡ length (kids_by p v end)
 count_kids p v (Shut c) = refl
-count_kids p v (Split fork) = length-map (heads_of p v.choice.value.part fork) (λ h. Some (origin_by (base_of v (next_of fork)) (Some h))) ∙ sym (length-map (heads_of p v.choice.value.part fork) (λ (h : Head). (h, headed (box_of_view v) h)))
+count_kids p v (Split fork) = length-map (heads_of p v.part.value fork) (λ h. Some (origin_by (base_by v (Split fork)) (Some h))) ∙ sym (length-map (heads_of p v.part.value fork) (λ (h : Head). (h, headed (box_of_view v) h)))
 count_kids p v Left = refl
 
 set_other : {A : Type 0} (xs : List A) (n m : ℕ) (x y : A) → m ≢ n → slice_get xs m ≡ Some y → slice_get (slice_set xs n x) m ≡ Some y
@@ -224,35 +237,35 @@ module _ (p : Network) (within : IsWithin p) (tol : ℤ) (root : PartBox) (budge
       let g = sized in
       omega arith
 
-  child_place : (k : ℕ) (h : Head) → Comes p w.view end k h → slice_get new.origins (length old.rows + k) ≡ Some (Some (origin_by (base_of w.view (next_by end)) (Some h)))
+  child_place : (k : ℕ) (h : Head) → Comes p w.view end k h → slice_get new.origins (length old.rows + k) ≡ Some (Some (origin_by (base_by w.view end) (Some h)))
   child_place k h c =
       let a = get_right (slice_set old.origins n None) (new_origins p w.view end) k in
       let is = c.is in
-      let b : slice_get (new_origins p w.view (Split c.fork)) k ≡ Some (Some (origin_by (base_of w.view (next_of c.fork)) (Some h))) = to_map (λ x. Some (origin_by (base_of w.view (next_of c.fork)) (Some x))) (heads_of p w.view.choice.value.part c.fork) k h c.at in
-      let d : slice_get (new_origins p w.view end) k ≡ Some (Some (origin_by (base_of w.view (next_by end)) (Some h))) = (rw is b) in
+      let b : slice_get (new_origins p w.view (Split c.fork)) k ≡ Some (Some (origin_by (base_by w.view (Split c.fork)) (Some h))) = to_map (λ x. Some (origin_by (base_by w.view (Split c.fork)) (Some x))) (heads_of p w.view.part.value c.fork) k h c.at in
+      let d : slice_get (new_origins p w.view end) k ≡ Some (Some (origin_by (base_by w.view end) (Some h))) = (rw is b) in
       let s = sized in
       let z = origins_after in
       rw (z, ← s) (a ∙ d)
 
-  child_box : (k : ℕ) (h : Head) → Comes p w.view end k h → slice_get (searched.boxes ++ map (λ (k : Head × PartBox). k.1) kids) (length old.rows + k) ≡ Some (box_of pool_scale (origin_by (base_of w.view (next_by end)) (Some h)))
+  child_box : (k : ℕ) (h : Head) → Comes p w.view end k h → slice_get (searched.boxes ++ map (λ (k : Head × PartBox). k.1) kids) (length old.rows + k) ≡ Some (box_of pool_scale (origin_by (base_by w.view end) (Some h)))
   child_box k h c =
       let is = c.is in
       let a = get_right searched.boxes (map (λ (k : Head × PartBox). k.1) kids) k in
-      let b : slice_get (kids_by p w.view (Split c.fork)) k ≡ Some (h, headed (box_of_view w.view) h) = to_map (λ x. (x, headed (box_of_view w.view) x)) (heads_of p w.view.choice.value.part c.fork) k h c.at in
+      let b : slice_get (kids_by p w.view (Split c.fork)) k ≡ Some (h, headed (box_of_view w.view) h) = to_map (λ x. (x, headed (box_of_view w.view) x)) (heads_of p w.view.part.value c.fork) k h c.at in
       let d : slice_get kids k ≡ Some (h, headed (box_of_view w.view) h) = (rw is b) in
       let e = to_map (λ (x : Head × PartBox). x.1) kids k (h, headed (box_of_view w.view) h) d in
       let s = searched.worked.pool.count in
-      rw (← s) (a ∙ e ∙ ap Some (headed_box w.view (next_by end) h))
+      rw (← s) (a ∙ e ∙ ap Some (headed_box w.view end h))
 
-  child_turn : (k : ℕ) (h : Head) → Comes p w.view end k h → slice_get (searched.turns ++ repeated (length kids) (next_by end)) (length old.rows + k) ≡ Some (turn_of (origin_by (base_of w.view (next_by end)) (Some h)))
+  child_turn : (k : ℕ) (h : Head) → Comes p w.view end k h → slice_get (searched.turns ++ repeated (length kids) (next_by end)) (length old.rows + k) ≡ Some (turn_of (origin_by (base_by w.view end) (Some h)))
   child_turn k h c =
       let is = c.is in
       let a = get_right searched.turns (repeated (length kids) (next_by end)) k in
-      let l = slice_get_within (heads_of p w.view.choice.value.part c.fork) k h c.at in
-      let m : length (kids_by p w.view (Split c.fork)) ≡ length (heads_of p w.view.choice.value.part c.fork) = length-map (heads_of p w.view.choice.value.part c.fork) (λ (h : Head). (h, headed (box_of_view w.view) h)) in
+      let l = slice_get_within (heads_of p w.view.part.value c.fork) k h c.at in
+      let m : length (kids_by p w.view (Split c.fork)) ≡ length (heads_of p w.view.part.value c.fork) = length-map (heads_of p w.view.part.value c.fork) (λ (h : Head). (h, headed (box_of_view w.view) h)) in
       let lt : k < length kids = (rw is (omega arith)) in
       let b = in_repeated (length kids) (next_by end) k lt in
-      let t : turn_by (next_by end) (Some h) ≡ next_by end = subst (λ (e : WorkEnd). turn_by (next_by e) (Some h) ≡ next_by e) (sym is) (turn_of_head p w.view.choice.value.part c.fork k h c.at) in
+      let t : turn_by (next_by end) (Some h) ≡ next_by end = subst (λ (e : WorkEnd). turn_by (next_by e) (Some h) ≡ next_by e) (sym is) (turn_of_head p w.view.part.value c.fork k h c.at) in
       let s = searched.worked.count in
       rw (← s) (a ∙ b ∙ ap Some (sym t))
 
@@ -274,16 +287,16 @@ module _ (p : Network) (within : IsWithin p) (tol : ℤ) (root : PartBox) (budge
         | inr child_now ↦
             let (k, h, sum, at, child) = child_now in
             let c = comes p w.view end k h at in
-            (origin_by (base_of w.view (next_by end)) (Some h), rw sum (child_place k h c), rw sum (child_box k h c), rw sum (child_turn k h c))
+            (origin_by (base_by w.view end) (Some h), rw sum (child_place k h c), rw sum (child_box k h c), rw sum (child_turn k h c))
       ]
 
-  begins : (k : ℕ) (h : Head) → Comes p w.view end k h → IsOrigin p (origin_by (base_of w.view (next_by end)) (Some h))
+  begins : (k : ℕ) (h : Head) → Comes p w.view end k h → IsOrigin p (origin_by (base_by w.view end) (Some h))
   begins k h c =
       let is = c.is in
       let known : IsEnd p tol w.view (Split c.fork) = subst (λ (e : WorkEnd). IsEnd p tol w.view e) is w.known in
       let fits = w.leads.fits in
-      let can = (forks_are_expected p pool_scale w.view.choice.value.part w.view.bounds w.view.turn c.fork within fits.part fits.bounds known.1 known.2).1 k h c.at in
-      record { part = fits.part; shape = fits.shape; bounds = fits.bounds; picks = can.0; halves = can.1 }
+      let can = (forks_are_expected p pool_scale w.view.part.value w.view.bounds.value w.view.turn c.fork within fits.part fits.bounds known.1 known.2).1 k h c.at in
+      record { part = fits.part; shape = rw is (kept_shape p w.view c.fork k h c.at fits.shape); bounds = fits.bounds; picks = can.0; halves = can.1 }
 
   fits_after : PoolFits p new
   fits_after m o here =
@@ -296,15 +309,33 @@ module _ (p : Network) (within : IsWithin p) (tol : ℤ) (root : PartBox) (budge
       child_fits (Shut c) is k o at = absurd cc
       child_fits Left is k o at = absurd cc
       child_fits (Split fork) is k o at =
-          let z = from_map (λ x. Some (origin_by (base_of w.view (next_of fork)) (Some x))) (heads_of p w.view.choice.value.part fork) k (Some o) at in
+          let z = from_map (λ x. Some (origin_by (base_by w.view (Split fork)) (Some x))) (heads_of p w.view.part.value fork) k (Some o) at in
           let b = begins k z.0 (record { fork = fork; is = is; at = z.1 }) in
-          let e : origin_by (base_of w.view (next_by end)) (Some z.0) ≡ o = (let t = z.2 in let u : next_by end ≡ next_of fork = ap next_by is in rw u cc) in
+          let there : origin_by (base_by w.view (Split fork)) (Some z.0) ≡ o = (let t = z.2 in cc) in
+          let e : origin_by (base_by w.view end) (Some z.0) ≡ o = ap (λ (x : WorkEnd). origin_by (base_by w.view x) (Some z.0)) is ∙ there in
           subst (IsOrigin p) e b
+
+  -- a box that is split is stable, and its children come of it
+  stable_after : AreOfStable p new
+  stable_after m o here =
+      elim (appended_cases (slice_set old.origins n None) (new_origins p w.view end) m (Some o) (let a = origins_after in rw a at here)) [
+        | inl before ↦ searched.origins.stable m o (set_some old.origins n m o before)
+        | inr child_now ↦ let (k, sum, at) = child_now in child_stable end refl k o at
+      ]
+    where
+      child_stable : (e : WorkEnd) → end ≡ e → (k : ℕ) (o : Origin) → slice_get (new_origins p w.view e) k ≡ Some (Some o) → IsOfStable p o
+      child_stable (Shut c) is k o at = absurd cc
+      child_stable Left is k o at = absurd cc
+      child_stable (Split fork) is k o at =
+          let known : IsEnd p tol w.view (Split fork) = subst (λ (e : WorkEnd). IsEnd p tol w.view e) is w.known in
+          let z = from_map (λ x. Some (origin_by (base_by w.view (Split fork)) (Some x))) (heads_of p w.view.part.value fork) k (Some o) at in
+          let e : origin_by (base_by w.view (Split fork)) (Some z.0) ≡ o = (let t = z.2 in cc) in
+          subst (IsOfStable p) e (λ h i. known.0.stable)
 
   pub searched_after : IsSearched p tol root budget new
   searched_after = record {
     boxes = searched.boxes ++ map (λ k. k.1) kids;
     turns = searched.turns ++ repeated (length kids) (next_by end);
     worked = worked;
-    origins = record { fits = fits_after; count = count_after; each = origin_each };
+    origins = record { fits = fits_after; stable = stable_after; count = count_after; each = origin_each };
   }

@@ -1,6 +1,7 @@
 -- Views of boxes, before they are worked and after.
-use Rattle.std.proofs.Common.{◌≡◌, ℕ, List, [], Option, Some, None, refl, sym, ap, subst, ◌∙◌, length-set}
+use Rattle.std.proofs.Common.{◌≡◌, ℕ, ◌<◌, ℤ, List, [], Option, Some, None, refl, sym, ap, subst, ◌∙◌, length-set}
 use Rattle.std.specs.Prelude.{slice_get}
+use Rattle.std.specs.Rc.{rc_value}
 use Rattle.gas_model.specs.Rows.{Network}
 use Rattle.gas_model.specs.Boxes.{Bounds, BoxFits}
 use Rattle.gas_model.specs.declared.rows.Var.TheVariants.{Flow, Square}
@@ -14,38 +15,43 @@ use Rattle.tree_rules.specs.Branches.{rules_of}
 use Rattle.tree_pool.specs.Rules.{after_steps}
 use Rattle.tight_steps.specs.Moves.{part_box}
 use Rattle.stable_sweep.specs.declared.sweep.Settled.{Settled}
-use Rattle.stable_sweep.specs.Runs.{AreTurns, Extends}
-use Rattle.stable_sweep.specs.Settling.{SettledAs}
+use Rattle.stable_sweep.specs.Runs.{after, AreTurns, Extends}
+use Rattle.stable_sweep.specs.Children.{ComesBy, IsHeadOf}
+use Rattle.stable_sweep.specs.Settling.{IsStable, SettledAs}
+use Rattle.stable_sweep.proofs.Sweeps.{var_of}
 use Rattle.box_pool.specs.declared.spot.BoxView.{BoxView}
 use Rattle.box_pool.specs.Grid.{pool_scale}
-use Rattle.box_pool.specs.Origins.{Origin, part_by, bounds_by, box_of, CanPick, IsOrigin, IsViewOf}
+use Rattle.box_pool.specs.Origins.{Origin, part_by, bounds_by, box_of, CanPick, CanHalve, IsOrigin, IsViewOf}
 use Rattle.box_pool.specs.Pools.{Boxed, PoolFits, Looks, ViewFits}
-use Rattle.nom_search.specs.Searched.{box_of_view, LeadsTo, IsSettled}
+use Rattle.nom_search.specs.Searched.{box_of_view, IsOfStable, AreOfStable, LeadsTo, IsSettled}
 use Rattle.nom_search.proofs.Runs.{turns_lead}
 
-abbrev pub moved_view : BoxView → Bounds → BoxView
-moved_view v b = record { choice = v.choice; bounds = b; turn = v.turn }
+-- without a step the ends are as they were
+pub stays : (p : Network) (K : ℤ) (part : PartState) (a b : Bounds) (none steps : List Step) → none ≡ [] → Extends p (part_box K part a) (part_box K part b) none steps → steps ≡ [] → b ≡ a
+stays p K part a b none steps empty e no_steps =
+    let added : e.added ≡ [] = (let l = e.list in cc) in
+    let box : part_box K part b ≡ after (part_box K part a) e.added = e.box in
+    ap (λ (q : PartBox). q.bounds) (rw added at box)
 
 -- what settling leaves of a view
-pub settled_view : (p : Network) (v : BoxView) (b : Bounds) (steps : List Step) (end : Settled) → ViewFits p v → BoxFits p b → Extends p (box_of_view v) (box_of_view (moved_view v b)) [] steps → SettledAs p (box_of_view (moved_view v b)) end
-    → IsSettled p v (moved_view v b) steps end
-settled_view p v b steps end fits box_fits e ends =
-    let same : steps ≡ e.added = e.list in
+pub settled_by : (p : Network) (v w : BoxView) (part : PartState) (a b : Bounds) (none steps : List Step) (end : Settled) → part ≡ v.part.value → a ≡ v.bounds.value → none ≡ [] → w.part ≡ v.part → w.shape ≡ v.shape → w.turn ≡ v.turn
+    → w.bounds.value ≡ b → ViewFits p v → BoxFits p b → Extends p (part_box pool_scale part a) (part_box pool_scale part b) none steps → SettledAs p (part_box pool_scale part b) end → IsSettled p v w steps end
+settled_by p v w part a b none steps end part_is bounds_is empty same_part same_shape same_turn moved fits box_fits e ends =
+    let of : w.part.value ≡ v.part.value = ap rc_value same_part in
+    let old : part_box pool_scale part a ≡ box_of_view v = rw (part_is, bounds_is) refl in
+    let new : part_box pool_scale part b ≡ box_of_view w = rw (part_is, of, moved) refl in
+    let list : steps ≡ e.added = (let l = e.list in rw empty at l) in
+    let turns : AreTurns p (box_of_view v) e.added = subst (λ (q : PartBox). AreTurns p q e.added) old e.turns in
+    let box : box_of_view w ≡ after (box_of_view v) e.added = sym new ∙ e.box ∙ ap (λ (q : PartBox). after q e.added) old in
     record {
-      fits = record { part = fits.part; shape = fits.shape; bounds = box_fits };
-      choice = refl;
-      turn = refl;
-      moves = subst (AreTurns p (box_of_view v)) (sym same) e.turns;
-      after = subst (λ (ss : List Step). after_steps (rules_of p) (box_of_view v) ss ≡ Some (box_of_view (moved_view v b))) (sym same) (turns_lead p (box_of_view v) e.added e.turns ∙ ap Some (sym e.box));
-      ends = ends;
+      fits = record { part = rw of fits.part; shape = rw (of, ap rc_value same_shape) fits.shape; bounds = rw moved box_fits };
+      part = same_part;
+      shape = same_shape;
+      turn = same_turn;
+      moves = subst (AreTurns p (box_of_view v)) (sym list) turns;
+      after = subst (λ (ss : List Step). after_steps (rules_of p) (box_of_view v) ss ≡ Some (box_of_view w)) (sym list) (turns_lead p (box_of_view v) e.added turns ∙ ap Some (sym box));
+      ends = subst (λ (q : PartBox). SettledAs p q end) new ends;
     }
-
-pub settled_by : (p : Network) (v : BoxView) (part : PartState) (b : Bounds) (none steps : List Step) (end : Settled) → part ≡ v.choice.value.part → none ≡ [] → ViewFits p v → BoxFits p b
-    → Extends p (part_box pool_scale part v.bounds) (part_box pool_scale part b) none steps → SettledAs p (part_box pool_scale part b) end → IsSettled p v (moved_view v b) steps end
-settled_by p v part b none steps end same empty fits box_fits e ends =
-    settled_view p v b steps end fits box_fits
-    (subst (λ (q : PartState). Extends p (part_box pool_scale q v.bounds) (part_box pool_scale q b) [] steps) same (subst (λ (n : List Step). Extends p (part_box pool_scale part v.bounds) (part_box pool_scale part b) n steps) empty e))
-    (subst (λ (q : PartState). SettledAs p (part_box pool_scale q b) end) same ends)
 
 bounds_fit : (p : Network) (b : Bounds) (h : Option Head) → BoxFits p b → BoxFits p (bounds_by b h)
 bounds_fit p b None fits = fits
@@ -71,8 +77,30 @@ view_fits p o v is view =
 
 view_box : (p : Network) (o : Origin) (v : BoxView) → IsViewOf p o v → box_of_view v ≡ box_of pool_scale o
 view_box p o v view =
-    ap (λ (part : PartState). record { scale = pool_scale; part = part; bounds = v.bounds }) view.part
+    ap (λ (part : PartState). record { scale = pool_scale; part = part; bounds = v.bounds.value }) view.part
     ∙ ap (λ (b : Bounds). record { scale = pool_scale; part = part_by o.part o.head; bounds = b }) view.bounds
+
+-- ---- the head of a view
+
+known_head : (p : Network) (part : PartState) (b : Bounds) (h : Option Head) → PartFits p part → BoxFits p b → CanPick p part h → CanHalve b h → IsHeadOf p h
+known_head p part b None fits box_fits can halves = tt
+known_head p part b (Some (Take k j)) fits box_fits can halves = tt
+known_head p part b (Some (State a s)) fits box_fits can halves = subst (λ (n : ℕ). a < n) fits.states can.0
+known_head p part b (Some (Half v low C)) fits box_fits can halves = var_of p b v box_fits halves.0
+
+head_comes : (p : Network) (part : PartState) (b : Bounds) (h : Option Head) → ((x : Head) → h ≡ Some x → IsStable p (record { scale = pool_scale; part = part; bounds = b }))
+    → ComesBy p (record { scale = pool_scale; part = part_by part h; bounds = bounds_by b h }) h
+head_comes p part b None stable = tt
+head_comes p part b (Some (Take k j)) stable = record { parent = record { scale = pool_scale; part = part; bounds = b }; stable = stable (Take k j) refl; child = refl }
+head_comes p part b (Some (State a s)) stable = record { parent = record { scale = pool_scale; part = part; bounds = b }; stable = stable (State a s) refl; child = refl }
+head_comes p part b (Some (Half v low C)) stable = record { parent = record { scale = pool_scale; part = part; bounds = b }; stable = stable (Half v low C) refl; child = refl }
+
+view_comes : (p : Network) (o : Origin) (v : BoxView) → IsOfStable p o → IsViewOf p o v → ComesBy p (box_of_view v) v.head
+view_comes p o v stable view =
+    subst (λ (b : PartBox). ComesBy p b v.head) (sym (view_box p o v view)) (subst (λ (h : Option Head). ComesBy p (box_of pool_scale o) h) (sym view.head) (head_comes p o.part o.bounds o.head stable))
+
+pub comes_of : (p : Network) (v : BoxView) (part : PartState) (b : Bounds) → part ≡ v.part.value → b ≡ v.bounds.value → ComesBy p (box_of_view v) v.head → ComesBy p (part_box pool_scale part b) v.head
+comes_of p v part b e f h = subst (λ (q : PartState). ComesBy p (part_box pool_scale q b) v.head) (sym e) (subst (λ (x : Bounds). ComesBy p (part_box pool_scale v.part.value x) v.head) (sym f) h)
 
 -- a view that was settled is led to from where its box comes from
 pub leads_to : (p : Network) (o : Origin) (v w : BoxView) (steps : List Step) (end : Settled) → IsViewOf p o v → IsSettled p v w steps end → LeadsTo p o steps w
@@ -88,6 +116,15 @@ leads_to p o v w steps end view settled =
 -- what looking shows, where something is there
 pub seen : (p : Network) (pool : Boxed) (n : ℕ) (o : Option BoxView) (v : BoxView) → o ≡ Some v → Looks p pool n o → (from : Origin) × (slice_get pool.origins n ≡ Some (Some from)) × IsViewOf p from v
 seen p pool n o v is looks = subst (Looks p pool n) is looks
+
+pub seen_head : (p : Network) (pool : Boxed) (n : ℕ) (o : Option BoxView) (v : BoxView) → PoolFits p pool → o ≡ Some v → Looks p pool n o → IsHeadOf p v.head
+seen_head p pool n o v fits is looks =
+    let s = seen p pool n o v is looks in
+    let f = fits n s.0 s.1 in
+    subst (IsHeadOf p) (sym s.2.head) (known_head p s.0.part s.0.bounds s.0.head f.part f.bounds f.picks f.halves)
+
+pub seen_comes : (p : Network) (pool : Boxed) (n : ℕ) (o : Option BoxView) (v : BoxView) → AreOfStable p pool → o ≡ Some v → Looks p pool n o → ComesBy p (box_of_view v) v.head
+seen_comes p pool n o v stable is looks = let s = seen p pool n o v is looks in view_comes p s.0 v (stable n s.0 s.1) s.2
 
 pub seen_fits : (p : Network) (pool : Boxed) (n : ℕ) (o : Option BoxView) (v : BoxView) → PoolFits p pool → o ≡ Some v → Looks p pool n o → ViewFits p v
 seen_fits p pool n o v fits is looks = let s = seen p pool n o v is looks in view_fits p s.0 v (fits n s.0 s.1) s.2

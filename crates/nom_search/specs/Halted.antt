@@ -60,8 +60,11 @@ pub record Halted (p : Network) (tol : ℤ) (root : PartBox) (budget : ℕ) (why
   pub is_line : IsLineOf rows named line tree
   pub halts : HaltsAt p tol root budget why rows boxes turns named
 
--- the text is that of a tree which passes at this root, with no box left open
-pub record Refutes (p : Network) (root : PartBox) (rows : List Row) (text : List ℕ) : Type 0 where
+-- the text is that of a tree which passes at this root, with no box left open; the search worked all its boxes in order
+pub record Refutes (p : Network) (tol : ℤ) (root : PartBox) (budget : ℕ) (rows : List Row) (text : List ℕ) : Type 0 where
+  pub boxes : List PartBox
+  pub turns : List ℕ
+  pub worked : IsWorked (sought p tol) root budget rows boxes turns
   pub tree : Tree
   pub is_text : IsTextOf rows text tree
   pub passes : Passes (rules_of p) tree root
@@ -70,7 +73,7 @@ pub record Refutes (p : Network) (root : PartBox) (rows : List Row) (text : List
 -- what a search answers, of the pool that it leaves
 abbrev pub Answers : Network → ℤ → PartBox → ℕ → Boxed → Found → Type 0
 Answers p tol root budget pool (Carried s) = IsNear p tol s × SettingFits p s
-Answers p tol root budget pool (Refuted text) = Refutes p root pool.rows text
+Answers p tol root budget pool (Refuted text) = Refutes p tol root budget pool.rows text
 Answers p tol root budget pool (Left why text line) = Halted p tol root budget why pool.rows text line
 
 -- it is what some pool of the root of the problem shows

@@ -3,6 +3,7 @@ use Rattle.std.specs.Prelude.{◌≡◌, ◌≢◌, true, ℕ, ◌+◌, ◌≤�
 use Rattle.gas_model.specs.declared.collections.NoMemory.{NoMemory}
 use Rattle.gas_model.specs.Rows.{Network}
 use Rattle.gas_model.specs.Near.{IsNear, SettingFits}
+use Rattle.tree_cert.specs.declared.line.Head.{Head}
 use Rattle.tree_cert.specs.declared.line.Step.{Step}
 use Rattle.tree_rules.specs.Rules.{PartBox, closing_holds}
 use Rattle.tree_rules.specs.Branches.{rules_of}
@@ -26,11 +27,19 @@ use Rattle.nom_search.specs.declared.searching.Turn.TheVariants as turn
 use Rattle.nom_search.specs.declared.searching.Outcome.{Outcome}
 use Rattle.nom_search.specs.declared.searching.Outcome.TheVariants as outcome
 use Rattle.stable_sweep.specs.declared.sweep.Settled.{Settled}
-use Rattle.stable_sweep.specs.Settling.{SettledAs}
+use Rattle.stable_sweep.specs.Settling.{IsStable, SettledAs}
+
+-- where it has a head, it is the child of a stable box
+abbrev pub IsOfStable : Network → Origin → Type 0
+IsOfStable p o = (h : Head) → o.head ≡ Some h → IsStable p (record { scale = pool_scale; part = o.part; bounds = o.bounds })
+
+abbrev pub AreOfStable : Network → Boxed → Type 0
+AreOfStable p pool = (n : ℕ) (o : Origin) → slice_get pool.origins n ≡ Some (Some o) → IsOfStable p o
 
 -- each box that waits can be made where it comes from
 pub record AreOrigins (p : Network) (pool : Boxed) (boxes : List PartBox) (turns : List ℕ) : Type 0 where
   pub fits : PoolFits p pool
+  pub stable : AreOfStable p pool
   pub count : length pool.origins ≡ length pool.rows
   pub each : (n : ℕ) (r : Row) → slice_get pool.rows n ≡ Some r → r.standing ≡ Waiting
       → (o : Origin) × (slice_get pool.origins n ≡ Some (Some o)) × (slice_get boxes n ≡ Some (box_of pool_scale o)) × (slice_get turns n ≡ Some (turn_of o))
@@ -44,7 +53,7 @@ pub record IsSearched (p : Network) (tol : ℤ) (root : PartBox) (budget : ℕ) 
 
 -- the box of a view
 abbrev pub box_of_view : BoxView → PartBox
-box_of_view v = record { scale = pool_scale; part = v.choice.value.part; bounds = v.bounds }
+box_of_view v = record { scale = pool_scale; part = v.part.value; bounds = v.bounds.value }
 
 -- the search stopped at box n for want of budget, and the pool is of this root
 pub record IsStopped (p : Network) (tol : ℤ) (root : PartBox) (budget : ℕ) (pool : Boxed) (n : ℕ) : Type 0 where
@@ -57,7 +66,7 @@ pub record IsStopped (p : Network) (tol : ℤ) (root : PartBox) (budget : ℕ) (
 -- what is known of the box that is left, by the end of the work on it
 abbrev pub IsEnd : Network → ℤ → BoxView → WorkEnd → Type 0
 IsEnd p tol v (Shut c) = closing_holds p (box_of_view v) c ≡ true
-IsEnd p tol v (Split fork) = IsCalm p tol (box_of_view v) × HasFork p v.choice.value.part v.bounds v.turn fork × (fork ≢ Least)
+IsEnd p tol v (Split fork) = IsCalm p tol (box_of_view v) × HasFork p v.part.value v.bounds.value v.turn fork × (fork ≢ Least)
 IsEnd p tol v Left = IsCalm p tol (box_of_view v) × IsLeast p v.turn (box_of_view v)
 
 -- these steps, each of which shrinks a width by an eighth, lead from a box to what is left of it
@@ -76,7 +85,7 @@ pub record IsWork (p : Network) (tol : ℤ) (budget : ℕ) (old new : Boxed) (n 
   pub leads : LeadsTo p origin steps view
   pub known : IsEnd p tol view end
   pub given : IsGiven p old new n steps end view
-  pub room : splits old.rows + splits_by (end_as p view.choice.value.part end) ≤ budget
+  pub room : splits old.rows + splits_by (end_as p view.part.value end) ≤ budget
 
 -- box n was left open for want of budget
 pub record IsUnpaid (p : Network) (tol : ℤ) (budget : ℕ) (old new : Boxed) (n : ℕ) : Type 0 where
@@ -87,7 +96,7 @@ pub record IsUnpaid (p : Network) (tol : ℤ) (budget : ℕ) (old new : Boxed) (
   pub leads : LeadsTo p origin steps view
   pub calm : IsCalm p tol (box_of_view view)
   pub fork : Fork
-  pub has : HasFork p view.choice.value.part view.bounds view.turn fork
+  pub has : HasFork p view.part.value view.bounds.value view.turn fork
   pub wide : fork ≢ Least
   pub spent : budget ≤ splits old.rows
   pub given : IsGiven p old new n steps Left view
@@ -103,7 +112,8 @@ Turns p tol budget old new n (Err e) = new ≡ old
 -- a view, settled by these steps
 pub record IsSettled (p : Network) (old new : BoxView) (steps : List Step) (end : Settled) : Type 0 where
   pub fits : ViewFits p new
-  pub choice : new.choice ≡ old.choice
+  pub part : new.part ≡ old.part
+  pub shape : new.shape ≡ old.shape
   pub turn : new.turn ≡ old.turn
   pub moves : AreTurns p (box_of_view old) steps
   pub after : after_steps (rules_of p) (box_of_view old) steps ≡ Some (box_of_view new)

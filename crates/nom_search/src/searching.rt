@@ -1,7 +1,8 @@
 // The search over the boxes of a pool.
-ghost use Rattle.std.specs.Prelude.{◌≡◌, ◌≢◌, true, ℕ, ℤ, pos, ◌+◌, ◌-◌, ◌*◌, ◌<◌, ◌≤◌, ◌^◌, length, Some, IfOk, slice_get};
+ghost use Rattle.std.specs.Prelude.{◌≡◌, ◌≢◌, true, ℕ, ℤ, pos, ◌+◌, ◌-◌, ◌*◌, ◌<◌, ◌≤◌, ◌^◌, [], length, Some, IfOk, OnOk, slice_get};
 ghost use Rattle.gas_model.specs.Within.{IsWithin};
 ghost use Rattle.tree_rules.specs.Rules.{PartBox, closing_holds};
+ghost use Rattle.stable_sweep.specs.Children.{ComesBy, IsHeadOf};
 ghost use Rattle.tree_pool.specs.Rows.{splits};
 ghost use Rattle.tree_pool.specs.Calls.{IsHeld};
 ghost use Rattle.search_order.specs.Searches.{NoneQuit};
@@ -12,14 +13,15 @@ ghost use Rattle.box_pool.specs.Pools.{PoolFits, ViewFits};
 ghost use Rattle.nom_search.specs.Sought.{IsCalm};
 ghost use Rattle.nom_search.specs.Halted.{Begins, IsStillOf, Answers};
 ghost use Rattle.nom_search.specs.Texts.{IsHalt, NamesBox, IsFound};
-ghost use Rattle.nom_search.specs.Searched.{box_of_view, LeadsTo, IsSearched, IsSettled, Turns, Ends};
+ghost use Rattle.nom_search.specs.Kept.{AreTools};
+ghost use Rattle.nom_search.specs.Searched.{box_of_view, AreOfStable, LeadsTo, IsSearched, IsSettled, Turns, Ends};
 
-use crate::trial::tried;
-use box_pool::{BoxView, Pool, Work, WorkEnd};
+use crate::trial::{Kept, tried};
+use box_core::VarBox;
+use box_pool::{BoxView, Pool, PoolGrid, Work, WorkEnd, shared};
 use box_split::{Fork, branch};
 use gas_model::{Bytes, List, NoMemory, Problem, Setting};
-use link_queue::LinkQueue;
-use stable_sweep::{Settled, settle};
+use stable_sweep::{LawQueue, Settled, settle_child};
 use std::alloc::Global;
 use tree_cert::{Closing, Step};
 
@@ -50,6 +52,13 @@ pub enum Turn {
     Carried(Setting),
 }
 
+/// What the work on boxes takes along: the queue of laws, and the choices of the probe that was made last.
+#[derive(Drop)]
+pub struct Tools {
+    pub queue: LawQueue,
+    pub kept: Option<Kept>,
+}
+
 /// How the boxes of a pool end: none waits any more, and this is the first one that was left open; this one was left for
 /// want of budget; or a setting was found.
 #[derive(Drop)]
@@ -59,29 +68,52 @@ pub enum Outcome {
     Carried(Setting),
 }
 
-// Settles a view, and gives the steps.
+// Gives a view the ends to which steps led. Without a step they are those that it has, and stay shared.
+fn move_to(
+    alloc: Global,
+    view: &mut BoxView,
+    bounds: VarBox<PoolGrid>,
+    steps: &[Step],
+) -> Result<(), NoMemory>
+    requires { steps.now ≡ [] → bounds ≡ view.old.bounds.value }
+    ensures part { OnOk result (view.new.part ≡ view.old.part) }
+    ensures shape { OnOk result (view.new.shape ≡ view.old.shape) }
+    ensures turn { OnOk result (view.new.turn ≡ view.old.turn) }
+    ensures bounds { OnOk result (view.new.bounds.value ≡ bounds) }
+{
+    if !steps.is_empty() {
+        view.bounds = shared(alloc, bounds)?;
+    }
+    Ok(())
+}
+
+// Settles a view, which where it has a head is the child of a stable box, and gives the steps.
 fn settled(
     alloc: Global,
     p: &Problem,
-    queue: &mut LinkQueue,
+    queue: &mut LawQueue,
     view: &mut BoxView,
 ) -> Result<(List<Step>, Settled), NoMemory>
     requires fits { ViewFits p.now view.old }
+    requires head { IsHeadOf p.now view.old.head }
+    requires comes { ComesBy p.now (box_of_view view.old) view.old.head }
     requires size { queue.old.size ≡ length p.now.nodes + length p.now.arcs }
     ensures size { queue.new.size ≡ queue.old.size }
     ensures settled { IfOk result (λ r. IsSettled p.now view.old view.new r.0 r.1) }
 {
     let mut steps = List::new(alloc);
-    let choice = &view.choice;
-    let end = settle(
+    let mut bounds = view.bounds.copy()?;
+    let end = settle_child(
         alloc,
         p,
-        &choice.shape,
-        &choice.part,
-        &mut view.bounds,
+        &view.shape,
+        &view.part,
+        &mut bounds,
+        view.head,
         queue,
         &mut steps,
     )?;
+    move_to(alloc, view, bounds, steps.as_slice())?;
     Ok((steps, end))
 }
 
@@ -124,7 +156,7 @@ fn split_box(
     requires room { length pool.old.rows + 1024 < 2 ^ 32 }
     requires origin { (o : Origin) × (slice_get pool.old.origins id ≡ Some (Some o)) × LeadsTo p.now o steps view }
     requires within { splits pool.old.rows ≤ boxes }
-    requires fork { HasFork p.now view.choice.value.part view.bounds view.turn fork }
+    requires fork { HasFork p.now view.part.value view.bounds.value view.turn fork }
     requires wide { fork ≢ Least }
     ensures { (tol : ℤ) → IsCalm p.now tol (box_of_view view) → Turns p.now tol boxes pool.old pool.new id result }
 {
@@ -155,8 +187,7 @@ fn branch_box(
     requires within { splits pool.old.rows ≤ boxes }
     ensures { (tol : ℤ) → IsCalm p.now tol (box_of_view view) → Turns p.now tol boxes pool.old pool.new id result }
 {
-    let choice = &view.choice;
-    match branch(p, &choice.shape, &choice.part, &view.bounds, view.turn) {
+    match branch(p, &view.shape, &view.part, &view.bounds, view.turn) {
         Fork::Least => {
             let end = WorkEnd::Left;
             pool.give_back(alloc, p, id, Work { steps, end }, view)?;
@@ -171,7 +202,7 @@ fn work_box(
     alloc: Global,
     p: &Problem,
     pool: &mut Pool,
-    queue: &mut LinkQueue,
+    tools: &mut Tools,
     id: u32,
     tol: u64,
     boxes: u64,
@@ -179,21 +210,22 @@ fn work_box(
     requires problem { IsWithin p.now }
     requires held { IsHeld pool.old.rows id }
     requires fits { PoolFits p.now pool.old }
+    requires stable { AreOfStable p.now pool.old }
     requires origin { (o : Origin) × (slice_get pool.old.origins id ≡ Some (Some o)) }
     requires room { length pool.old.rows + 1024 < 2 ^ 32 }
     requires within { splits pool.old.rows ≤ boxes }
-    requires size { queue.old.size ≡ length p.now.nodes + length p.now.arcs }
+    requires tools { AreTools p.now tools.old }
     requires tol { tol ≤ 10 ^ 16 }
-    ensures size { queue.new.size ≡ queue.old.size }
+    ensures tools { AreTools p.now tools.new }
     ensures turn { Turns p.now (pos tol) boxes pool.old pool.new id result }
 {
     let Some(mut view) = pool.look(alloc, p, id)? else {
         return Err(NoMemory);
     };
-    let (steps, end) = settled(alloc, p, queue, &mut view)?;
+    let (steps, end) = settled(alloc, p, &mut tools.queue, &mut view)?;
     match end {
         Settled::Shut(closing) => shut_box(alloc, p, pool, id, steps, closing, view, boxes),
-        Settled::Stable => match tried(alloc, p, &view, tol)? {
+        Settled::Stable => match tried(alloc, p, &view, &mut tools.kept, tol)? {
             Some(setting) => Ok(Turn::Carried(setting)),
             None => branch_box(alloc, p, pool, id, steps, view, boxes),
         },
@@ -205,14 +237,14 @@ fn drain(
     alloc: Global,
     p: &Problem,
     pool: &mut Pool,
-    queue: &mut LinkQueue,
+    tools: &mut Tools,
     tol: u64,
     boxes: u64,
 ) -> Result<Outcome, NoMemory>
     requires problem { IsWithin p.now }
     requires searched { (root : PartBox) × IsSearched p.now (pos tol) root boxes pool.old }
     requires room { length pool.old.rows + 1024 * (boxes - splits pool.old.rows) + 1024 < 2 ^ 32 }
-    requires size { queue.old.size ≡ length p.now.nodes + length p.now.arcs }
+    requires tools { AreTools p.now tools.old }
     requires tol { tol ≤ 10 ^ 16 }
     requires fresh { NoneQuit pool.old.rows }
     ensures still { (root : PartBox) → IsSearched p.now (pos tol) root boxes pool.old → IsStillOf p.now root pool.new }
@@ -220,7 +252,7 @@ fn drain(
 {
     let mut first = None;
     while let Some(id) = pool.take() {
-        match work_box(alloc, p, pool, queue, id, tol, boxes)? {
+        match work_box(alloc, p, pool, tools, id, tol, boxes)? {
             Turn::Done => {}
             Turn::Least => first = first.or(Some(id)),
             Turn::Full => return Ok(Outcome::Full(id)),
@@ -272,13 +304,13 @@ pub fn search(
     requires begins { (root : PartBox) × Begins p.now root pool.old }
     requires tol { tol ≤ 10 ^ 16 }
     requires boxes { boxes ≤ 16384 }
+    ensures within { IsWithin p.now }
     ensures still { (root : PartBox) → Begins p.now root pool.old → IsStillOf p.now root pool.new }
     ensures answers { (root : PartBox) → Begins p.now root pool.old → IfOk result (Answers p.now (pos tol) root boxes pool.new) }
 {
     let size = (p.nodes().len() + p.arcs().len()) as u32;
-    let Ok(mut queue) = LinkQueue::new(alloc, size) else {
-        return Err(NoMemory);
-    };
-    let outcome = drain(alloc, p, pool, &mut queue, tol, boxes)?;
+    let queue = LawQueue::new(alloc, size)?;
+    let mut tools = Tools { queue, kept: None };
+    let outcome = drain(alloc, p, pool, &mut tools, tol, boxes)?;
     answered(alloc, pool, outcome)
 }

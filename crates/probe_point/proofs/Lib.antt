@@ -14,3 +14,4 @@ pub mod Given
 pub mod ChoiceFacts
 pub mod Composed
 pub mod OnlyOne
+pub mod PartFacts

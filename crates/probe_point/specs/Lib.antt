@@ -6,3 +6,4 @@ pub mod Chosen
 pub mod Chords
 pub mod Points
 pub mod Given
+pub mod Choices

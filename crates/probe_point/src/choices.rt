@@ -30,7 +30,7 @@ fn all_there<T: Copy + Drop>(alloc: Global, items: &[T]) -> Result<List<Option<T
 }
 
 /// The same items once more.
-fn copied<T: Copy + Drop>(alloc: Global, items: &[T]) -> Result<List<T>, NoMemory>
+pub fn copied<T: Copy + Drop>(alloc: Global, items: &[T]) -> Result<List<T>, NoMemory>
     ensures { IfOk result (λ copy. copy ≡ items.now) }
 {
     let mut copy = List::new(alloc);

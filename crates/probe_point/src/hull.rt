@@ -11,11 +11,14 @@ use gas_model::{Ends, NoMemory, Var};
 use gas_units::{ceil_div, floor_div};
 use std::alloc::Global;
 
-/// The whole numbers next to two ends, outward.
+/// The whole numbers next to two ends, outward. Ends that count ones are whole, and need no quotient.
 fn hull_of(scale: i128, ends: Ends) -> Ends
     requires { IsScale scale }
     ensures { IsHull scale ends result }
 {
+    if scale == 1 {
+        return ends;
+    }
     Ends {
         lo: floor_div(ends.lo, scale),
         hi: ceil_div(ends.hi, scale),
@@ -30,7 +33,7 @@ pub fn flow_hulls(alloc: Global, b: &ScaledBox, arcs: usize) -> Result<Vec<Ends>
     ensures hulls { IfOk result (λ hulls. AreHulls b.now.scale b.now.bounds.flows hulls.items) }
     ensures limits { IfOk result (λ hulls. AreFlowBoxes hulls.items) }
 {
-    let mut hulls = Vec::new(alloc);
+    let mut hulls = Vec::with_capacity(alloc, arcs)?;
     for arc in 0..arcs {
         hulls.push(hull_of(b.scale(), b.ends(Var::Flow(arc as u32))))?;
     }
@@ -45,7 +48,7 @@ pub fn square_hulls(alloc: Global, b: &ScaledBox, nodes: usize) -> Result<Vec<En
     ensures hulls { IfOk result (λ hulls. AreHulls b.now.scale b.now.bounds.squares hulls.items) }
     ensures limits { IfOk result (λ hulls. AreSquareBoxes hulls.items) }
 {
-    let mut hulls = Vec::new(alloc);
+    let mut hulls = Vec::with_capacity(alloc, nodes)?;
     for node in 0..nodes {
         hulls.push(hull_of(b.scale(), b.ends(Var::Square(node as u32))))?;
     }

@@ -3,6 +3,7 @@
 #![tactic(auto)]
 
 mod choices;
+mod choosing;
 mod chords;
 mod flows;
 mod hull;
@@ -13,8 +14,9 @@ mod roots;
 mod squares;
 mod supplies;
 
+pub use choosing::{Chosen, is_same_part};
 pub use laws::{one_probe, one_square, one_tree_flow};
-pub use probing::probe;
+pub use probing::{probe, probe_chosen};
 
 #[cfg(test)]
 mod tests;

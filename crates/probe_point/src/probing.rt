@@ -1,18 +1,19 @@
 // The setting that is tried in a box.
 ghost use Rattle.std.specs.Prelude.{◌≡◌, pos, length, replicate, IfOk};
 ghost use Rattle.gas_model.specs.Boxes.{BoxFits};
-ghost use Rattle.gas_model.specs.Choices.{ArePicks, PartFits};
+ghost use Rattle.gas_model.specs.declared.rows.PartState.{PartState};
+ghost use Rattle.gas_model.specs.Choices.{PartFits};
 ghost use Rattle.gas_model.specs.Near.{SettingFits, number_at};
 ghost use Rattle.box_ends.specs.Empty.{LeavesAll};
-ghost use Rattle.topo.specs.Shapes.{IsShapeOf};
 ghost use Rattle.probe_point.specs.Probes.{box_at, AreSmall, AreFlowBoxes};
 ghost use Rattle.probe_point.specs.Squares.{AreSquares, AreSquareBoxes, HasSquares};
-ghost use Rattle.probe_point.specs.Chosen.{picks_of, with_picks, all_chosen, AreChosen};
+ghost use Rattle.probe_point.specs.Choices.{AreChoicesOf};
 ghost use Rattle.probe_point.specs.Points.{middle_supplies, AreProbeSquares, IsProbe};
 ghost use Rattle.probe_point.specs.Chords.{HasMiddles};
 ghost use Rattle.probe_point.specs.Given.{IsSomeShape, AreGivenFlows, HasGivenFlows};
 
-use crate::choices::{all_chosen, chosen_states, picks_of, with_picks};
+use crate::choices::copied;
+use crate::choosing::Chosen;
 use crate::chords::chord_flows;
 use crate::flows::tree_flows;
 use crate::hull::{flow_hulls, square_hulls};
@@ -21,51 +22,10 @@ use crate::squares::far_squares;
 use crate::supplies::{middle_supplies, whole_numbers, zeros};
 use box_core::VarBox;
 use box_ends::ScaledBox;
-use gas_model::{ArcState, Ends, List, NoMemory, PartState, Problem, Setting};
+use gas_model::{ArcState, Ends, NoMemory, PartState, Problem, Setting};
 use interval_core::Grid;
 use std::alloc::Global;
 use topo::Shape;
-
-// The picked decision of each group, or its first one.
-fn picks_in(alloc: Global, p: &Problem, part: &PartState) -> Result<List<u32>, NoMemory>
-    requires { PartFits p.now part.now }
-    ensures value { IfOk result (λ picks. picks ≡ picks_of part.now) }
-    ensures fits { IfOk result (λ picks. ArePicks p.now.groups picks) }
-{
-    let picks = picks_of(alloc, part)?;
-    let one_each = picks.as_slice().len() == p.groups().len();
-    prove!(one_each);
-    Ok(picks)
-}
-
-// The state of each arc, where these decisions are picked.
-fn states_of(
-    alloc: Global,
-    p: &Problem,
-    part: &PartState,
-    picks: &[u32],
-) -> Result<List<ArcState>, NoMemory>
-    requires part { PartFits p.now part.now }
-    requires picks { ArePicks p.now.groups picks.now }
-    ensures { IfOk result (λ states. AreChosen p.now (with_picks picks.now part.now) states) }
-{
-    let picked = with_picks(alloc, part, picks)?;
-    chosen_states(alloc, p, &picked)
-}
-
-// The shape with all choices made.
-fn shape_of(
-    alloc: Global,
-    p: &Problem,
-    picks: &[u32],
-    states: &[ArcState],
-) -> Result<Shape, NoMemory>
-    requires { PartFits p.now (all_chosen picks.now states.now) }
-    ensures { IfOk result (λ shape. IsShapeOf p.now (all_chosen picks.now states.now) shape) }
-{
-    let whole = all_chosen(alloc, picks, states)?;
-    Shape::of(alloc, p, &whole)
-}
 
 // Gives chords and tree arcs their flows. `flows` has none before, and `need` the middle supplies.
 fn give_flows(p: &Problem, shape: &Shape, hulls: &[Ends], flows: &mut [i128], need: &mut [i128])
@@ -164,42 +124,35 @@ fn squares_of(
 // The setting with these choices, flows and squares.
 fn setting(
     alloc: Global,
-    picks: List<u32>,
-    states: List<ArcState>,
+    chosen: &Chosen,
     flows: &[i128],
     squares: &[i128],
 ) -> Result<Setting, NoMemory>
     requires flows { AreSmall 1 flows.now }
     requires squares { AreSquares squares.now }
-    ensures { IfOk result (λ s. s ≡ record { picks = picks; states = states; flows = flows.now; squares = squares.now }) }
+    ensures { IfOk result (λ s. s ≡ record { picks = chosen.now.picks; states = chosen.now.states; flows = flows.now; squares = squares.now }) }
 {
     Ok(Setting {
-        picks,
-        states,
+        picks: copied(alloc, chosen.picks.as_slice())?,
+        states: copied(alloc, chosen.states.as_slice())?,
         flows: whole_numbers(alloc, flows)?,
         squares: whole_numbers(alloc, squares)?,
     })
 }
 
-// The probe of a box with its scale.
-fn probe_of(
-    alloc: Global,
-    p: &Problem,
-    part: &PartState,
-    b: &ScaledBox,
-) -> Result<Setting, NoMemory>
-    requires part { PartFits p.now part.now }
+// The probe of a box with its scale, where the choices are made.
+fn probe_of(alloc: Global, p: &Problem, chosen: &Chosen, b: &ScaledBox) -> Result<Setting, NoMemory>
+    requires chosen { (part : PartState) × AreChoicesOf p.now part chosen.now }
     requires bounds { BoxFits p.now b.now.bounds }
     requires all { LeavesAll b.now.bounds }
-    ensures probe { IfOk result (λ s. IsProbe b.now.scale p.now part.now b.now.bounds s) }
+    ensures probe { (part : PartState) → AreChoicesOf p.now part chosen.now → IfOk result (λ s. IsProbe b.now.scale p.now part b.now.bounds s) }
     ensures fits { IfOk result (λ s. SettingFits p.now s) }
 {
-    let picks = picks_in(alloc, p, part)?;
-    let states = states_of(alloc, p, part, picks.as_slice())?;
-    let shape = shape_of(alloc, p, picks.as_slice(), states.as_slice())?;
-    let flows = flows_of(alloc, p, &shape, b)?;
-    let squares = squares_of(alloc, p, &shape, states.as_slice(), flows.as_slice(), b)?;
-    setting(alloc, picks, states, flows.as_slice(), squares.as_slice())
+    let shape = &chosen.shape;
+    let states = chosen.states.as_slice();
+    let flows = flows_of(alloc, p, shape, b)?;
+    let squares = squares_of(alloc, p, shape, states, flows.as_slice(), b)?;
+    setting(alloc, chosen, flows.as_slice(), squares.as_slice())
 }
 
 /// The setting that is tried in a box. Groups that aren't picked take their first decision, and then arcs whose state
@@ -222,5 +175,24 @@ pub fn probe<G: Grid>(
     ensures probe { IfOk result (λ s. IsProbe G.SCALE p.now part.now b.now s) }
     ensures fits { IfOk result (λ s. SettingFits p.now s) }
 {
-    probe_of(alloc, p, part, b.scaled())
+    let chosen = Chosen::of(alloc, p, part)?;
+    probe_chosen(alloc, p, &chosen, b)
+}
+
+/// The probe of a box in a part state whose choices are made: the same setting as `probe` gives, for less work.
+///
+/// The choices are those of a part state of the problem, the box fits the problem, and no width is negative.
+pub fn probe_chosen<G: Grid>(
+    alloc: Global,
+    p: &Problem,
+    chosen: &Chosen,
+    b: &VarBox<G>,
+) -> Result<Setting, NoMemory>
+    requires chosen { (part : PartState) × AreChoicesOf p.now part chosen.now }
+    requires bounds { BoxFits p.now b.now }
+    requires all { LeavesAll b.now }
+    ensures probe { (part : PartState) → AreChoicesOf p.now part chosen.now → IfOk result (λ s. IsProbe G.SCALE p.now part b.now s) }
+    ensures fits { IfOk result (λ s. SettingFits p.now s) }
+{
+    probe_of(alloc, p, chosen, b.scaled())
 }

@@ -28,7 +28,7 @@ pub fn middle_supplies(alloc: Global, p: &Problem) -> Result<Vec<i128>, NoMemory
     ensures value { IfOk result (λ all. all.items ≡ middle_supplies p.now.nodes) }
     ensures size { IfOk result (λ all. AreSmall 1 all.items) }
 {
-    let mut all = Vec::new(alloc);
+    let mut all = Vec::with_capacity(alloc, p.nodes().len())?;
     for node in p.nodes() {
         all.push(middle_supply(node))?;
     }

@@ -2,9 +2,11 @@
 ghost use Rattle.std.specs.Prelude.{OnOk};
 ghost use Rattle.gas_model.specs.Boxes.{BoxFits};
 
-use crate::probe;
+use crate::{is_same_part, probe};
 use box_core::VarBox;
-use gas_model::{ArcKind, ArcText, Drag, List, Name, NodeRow, Problem, Rows, Setting, Var};
+use gas_model::{
+    ArcKind, ArcState, ArcText, Drag, List, Name, NodeRow, Problem, Rows, Setting, Var,
+};
 use interval_core::{Grid, Ones, Sixteenths};
 use std::alloc::Global;
 use std::test::Fail;
@@ -131,5 +133,24 @@ fn chord_has_its_middle_and_the_tree_the_rest(rt: HostRuntime) -> Result<(), Fai
     let s = probe_below::<Sixteenths>(rt.alloc(), &p, 313)?;
     assert_eq!(rt; s.flows.as_slice(), &[1i64, 0][..]);
     assert_eq!(rt; s.squares.as_slice(), &[18i64, 17][..]);
+    Ok(())
+}
+
+// Part states of one pipe are the same until one names its state.
+#[test]
+fn part_states_are_compared_item_by_item(rt: HostRuntime) -> Result<(), Fail> {
+    let mut arcs = List::new(rt.alloc());
+    arcs.push(pipe(rt.alloc(), "p", (0, 1), 1)?)?;
+    let of = Pair {
+        a: (4, 5),
+        b: (4, 5),
+        supply: 1,
+    };
+    let p = problem(rt.alloc(), of, arcs)?;
+    let part = p.fresh()?;
+    let mut other = p.fresh()?;
+    assert!(rt; is_same_part(&part, &other));
+    other.states = List::filled(rt.alloc(), Some(ArcState::Opened), 1)?;
+    assert!(rt; !is_same_part(&part, &other));
     Ok(())
 }

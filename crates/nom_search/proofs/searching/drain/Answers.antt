@@ -1,6 +1,6 @@
-use Rattle.std.proofs.Common.{ℕ, Option, sym, subst, ◌∙◌, arith, pos}
+use Rattle.std.proofs.Common.{ℕ, Option, sym, subst, arith, pos}
 use Rattle.search_order.specs.Searches.{FirstQuit}
-use Rattle.nom_search.proofs.Drained.{done_is, least_is, full_is, held, taken_length, taken_splits, taken_fits, taken_origin, shrinks, quits_not, quits_left, searched_on, stopped, searched_still, stopped_still, taken_still, rows_still, carried_is}
+use Rattle.nom_search.proofs.Drained.{done_is, least_is, full_is, held, taken_length, taken_splits, taken_fits, taken_stable, taken_origin, shrinks, quits_not, quits_left, searched_on, stopped, searched_still, stopped_still, taken_still, rows_still, carried_is}
 use Rattle.nom_search.proofs.searching.drain.Goals as goal
 
 pub work_box-requires-clause-held : goal.work_box-requires-clause-held
@@ -9,6 +9,10 @@ work_box-requires-clause-held c = held c.args.p.now c.requires.problem (pos c.ar
 pub work_box-requires-clause-fits : goal.work_box-requires-clause-fits
 work_box-requires-clause-fits c =
     taken_fits c.args.p.now c.requires.problem (pos c.args.tol) c.args.boxes c.loop-id.pool c.take.new.self c.in-Some.id c.in-Some.ensures.some.0 c.in-Some.ensures.some.1 c.take.ensures.origins c.requires.searched.0 (c.loop-id.invariant.kept c.requires.searched.0 c.requires.searched.1)
+
+pub work_box-requires-clause-stable : goal.work_box-requires-clause-stable
+work_box-requires-clause-stable c =
+    taken_stable c.args.p.now c.requires.problem (pos c.args.tol) c.args.boxes c.loop-id.pool c.take.new.self c.in-Some.id c.in-Some.ensures.some.0 c.in-Some.ensures.some.1 c.take.ensures.origins c.requires.searched.0 (c.loop-id.invariant.kept c.requires.searched.0 c.requires.searched.1)
 
 pub work_box-requires-clause-origin : goal.work_box-requires-clause-origin
 work_box-requires-clause-origin c =
@@ -37,7 +41,7 @@ loop-id-preserved-in-Done c =
     let now = c.loop-id.invariant.kept c.requires.searched.0 c.requires.searched.1 in
     let s = shrinks c.args.p.now c.requires.problem (pos c.args.tol) c.args.boxes c.loop-id.pool c.take.new.self c.in-Some.id c.in-Some.ensures.some.0 c.in-Some.ensures.some.1 c.take.ensures.origins c.requires.searched.0 now c.work_box.new.pool d.0 d.2 in
     record {
-      size = c.in_ok-work_box.ensures.size ∙ c.loop-id.invariant.size;
+      tools = c.in_ok-work_box.ensures.tools;
       within = s.1;
       room = (let a = c.loop-id.invariant.room in let b = s.2 in omega arith);
       first = quits_not c.args.p.now c.requires.problem (pos c.args.tol) c.args.boxes c.loop-id.pool c.take.new.self c.in-Some.id c.in-Some.ensures.some.0 c.in-Some.ensures.some.1 c.take.ensures.origins c.requires.searched.0 now c.work_box.new.pool d.0 d.2 d.1 c.loop-id.first c.loop-id.invariant.first;
@@ -55,7 +59,7 @@ loop-id-preserved c =
     let now = c.loop-id.invariant.kept c.requires.searched.0 c.requires.searched.1 in
     let s = shrinks c.args.p.now c.requires.problem (pos c.args.tol) c.args.boxes c.loop-id.pool c.take.new.self c.in-Some.id c.in-Some.ensures.some.0 c.in-Some.ensures.some.1 c.take.ensures.origins c.requires.searched.0 now c.work_box.new.pool _ w in
     record {
-      size = c.in_ok-work_box.ensures.size ∙ c.loop-id.invariant.size;
+      tools = c.in_ok-work_box.ensures.tools;
       within = s.1;
       room = (let a = c.loop-id.invariant.room in let b = s.2 in omega arith);
       first =

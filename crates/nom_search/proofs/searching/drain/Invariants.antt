@@ -1,14 +1,15 @@
-use Rattle.std.proofs.Common.{◌≡◌, ◌+◌, ◌-◌, ◌*◌, ◌<◌, ◌≤◌, ◌^◌, length, pos}
+use Rattle.std.proofs.Common.{◌+◌, ◌-◌, ◌*◌, ◌<◌, ◌≤◌, ◌^◌, length, pos}
 use Rattle.tree_rules.specs.Rules.{PartBox}
 use Rattle.tree_pool.specs.Rows.{splits}
 use Rattle.search_order.specs.Searches.{FirstQuit}
 use Rattle.search_order.specs.Turns.{remains}
+use Rattle.nom_search.specs.Kept.{AreTools}
 use Rattle.nom_search.specs.Searched.{IsSearched}
 use Rattle.nom_search.proofs.searching.drain.Given as goal
 
 abbrev pub invariant-loop-id : goal.invariant-loop-id
 invariant-loop-id l = record {
-  size : l.queue.size ≡ length l.p.nodes + length l.p.arcs;
+  tools : AreTools l.p l.tools;
   within : splits l.pool.rows ≤ l.boxes;
   room : length l.pool.rows + 1024 * (l.boxes - splits l.pool.rows) + 1024 < 2 ^ 32;
   first : FirstQuit l.pool.rows l.first;

@@ -5,8 +5,8 @@ use Rattle.nom_search.proofs.Drained.{searched_still}
 use Rattle.nom_search.proofs.Answering.{begins_searched, names_box, if_ok_map, answers_are}
 use Rattle.nom_search.proofs.searching.search.Goals as goal
 
-pub returns-in_default-clause-still : goal.returns-in_default-clause-still
-returns-in_default-clause-still c = λ root b. searched_still c.args.p.now (pos c.args.tol) root c.args.boxes c.args.pool.now (begins_searched c.args.p.now (pos c.args.tol) root c.args.boxes c.args.pool.now b)
+pub returns-in_err-queue-clause-still : goal.returns-in_err-queue-clause-still
+returns-in_err-queue-clause-still c = λ root b. searched_still c.args.p.now (pos c.args.tol) root c.args.boxes c.args.pool.now (begins_searched c.args.p.now (pos c.args.tol) root c.args.boxes c.args.pool.now b)
 
 pub drain-requires-clause-searched : goal.drain-requires-clause-searched
 drain-requires-clause-searched c = (c.requires.begins.0, begins_searched c.args.p.now (pos c.args.tol) c.requires.begins.0 c.args.boxes c.args.pool.now c.requires.begins.1)

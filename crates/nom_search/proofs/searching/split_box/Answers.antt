@@ -5,7 +5,7 @@ use Rattle.nom_search.proofs.searching.split_box.Goals as goal
 
 pub give_back-requires-2-clause-room : goal.give_back-requires-2-clause-room
 give_back-requires-2-clause-room c =
-    let few = few_heads c.args.p.now c.args.view.choice.value.part c.args.fork c.requires.problem in
+    let few = few_heads c.args.p.now c.args.view.part.value c.args.fork c.requires.problem in
     let room = c.requires.room in
     omega arith
 
