@@ -28,11 +28,11 @@ use Rattle.search_reach.proofs.DepthKids.{HasHead, steps_keep_part, heads_give, 
 use Rattle.search_reach.proofs.DepthParts.{IsAt, root_at, group_is, group_next, half_next, arc_next}
 use Rattle.search_reach.proofs.DepthWidth.{few_heads}
 
-abbrev Cases : Network → PartState → Fork → Type 0
+abbrev pub Cases : Network → PartState → Fork → Type 0
 Cases p part fork = GroupCase p part fork ⊎ (ArcCase p part fork ⊎ HalfCase p part fork)
 
 -- what a fork that isn't `Least` is by
-cases_of : (p : Network) (part : PartState) (b : _) (turn : ℕ) (fork : Fork) → HasFork p part b turn fork → fork ≢ Least → Cases p part fork
+pub cases_of : (p : Network) (part : PartState) (b : _) (turn : ℕ) (fork : Fork) → HasFork p part b turn fork → fork ≢ Least → Cases p part fork
 cases_of p part b turn fork has wide =
     let e = has.fork_is in
     subst (Cases p part) (sym e) (fork_cases p has.shape.split_list part b turn (λ z. wide (e ∙ z)))

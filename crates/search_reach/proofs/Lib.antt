@@ -1,3 +1,5 @@
+mod BudgetCounts
+mod BudgetWays
 mod DepthForks
 mod DepthKids
 mod DepthLists
@@ -5,7 +7,9 @@ mod DepthLoose
 mod DepthParts
 mod DepthTree
 mod DepthWidth
+pub mod BudgetLaw
 pub mod DepthLaw
+pub mod Reaching
 pub mod StepChildren
 pub mod StepLaws
 pub mod StepPairs

@@ -18,7 +18,7 @@ use Rattle.nom_search.specs.declared.searching.Why.{Why}
 use Rattle.nom_search.specs.declared.searching.Why.TheVariants.{Budget, Grid}
 use Rattle.nom_search.specs.Sought.{sought}
 use Rattle.nom_search.specs.Halted.{HaltsAt}
-use Rattle.search_reach.specs.StepPaths.{StepsAreFewIn, FewWhereHalted, FewWhereWorked}
+use Rattle.search_reach.specs.StepPaths.{StepsAreFewIn, FewWhereHalted, FewWhereRefuted, FewWhereWorked}
 use Rattle.search_reach.proofs.StepWidths.{opening_narrow}
 use Rattle.search_reach.proofs.StepRows.{HaveTurns, steps_are_few_in}
 
@@ -55,6 +55,9 @@ stopped_turns p tol budget rows boxes turns named map stop n r b here there =
 pub few_where_worked : FewWhereWorked
 few_where_worked p tol budget rows boxes turns within worked =
     from_root p rows boxes within worked.map worked.pool (worked_turns p tol (root_box pool_scale p) budget rows boxes turns worked)
+
+pub few_where_refuted : FewWhereRefuted
+few_where_refuted p tol budget rows text within refuted = few_where_worked p tol budget rows refuted.boxes refuted.turns within refuted.worked
 
 halted_turns : (p : Network) (tol : ℤ) (root : PartBox) (budget : ℕ) (why : Why) (rows : List Row) (boxes : List PartBox) (turns : List ℕ) (named : ℕ) → IsMap rows → HaltsAt p tol root budget why rows boxes turns named → HaveTurns p rows boxes
 halted_turns p tol root budget Budget rows boxes turns named map halts = stopped_turns p tol budget rows boxes turns named map halts

@@ -1,6 +1,6 @@
 -- Where a search halts, the halvings of a variable are few on the way to each box; where it stops for want of budget, the
 -- box that it names is narrow.
-use Rattle.std.proofs.Common.{◌≡◌, ℕ, suc, ◌<◌, ◌≤◌, ◌*◌, ◌^◌, refl, sym, ap, subst, ◌∙◌, inl, inr, arith, Bool, true, false, ◌||◌, List, [], ◌∷◌, length, get_or, ℤ, pos, ◌-ℤ◌, ◌*ℤ◌, ◌≤ℤ◌}
+use Rattle.std.proofs.Common.{◌≡◌, ℕ, suc, ◌<◌, ◌≤◌, ◌*◌, ◌^◌, refl, sym, ap, subst, ◌∙◌, inl, inr, arith, Bool, true, false, ◌||◌, List, [], ◌∷◌, Some, length, get_or, ℤ, pos, ◌-ℤ◌, ◌*ℤ◌, ◌≤ℤ◌}
 use Rattle.std.specs.List.{list_any}
 use Rattle.std.proofs.Math.Nat.{pow-le-pow_right}
 use Rattle.std.proofs.lemmas.Nat.{pow_pos}
@@ -15,31 +15,46 @@ use Rattle.gas_model.specs.Boxes.{BoxFits, opening, flow_ends, square_ends}
 use Rattle.topo.specs.Shapes.{Layout, IsShapeOf}
 use Rattle.tree_cert.specs.declared.line.Head.{Head}
 use Rattle.tree_rules.specs.Rules.{PartBox}
-use Rattle.tree_rules.specs.Branches.{same_var, root_box}
+use Rattle.tree_rules.specs.Branches.{same_var, root_box, rules_of}
+use Rattle.tree_pool.specs.Rows.{Row, IsMap}
+use Rattle.tree_pool.specs.Rules.{IsOf}
 use Rattle.stable_sweep.specs.Runs.{after}
 use Rattle.box_split.specs.Forks.{no_var}
 use Rattle.tree_rules.proofs.CutSound.{get_some}
 use Rattle.box_pool.specs.Grid.{pool_scale}
-use Rattle.nom_search.specs.declared.searching.Why.TheVariants.{Budget}
-use Rattle.search_reach.specs.Widths.{is_half, halves, heads_to, width_in, HalvingsAreFew, NamedBoxesAreNarrow}
-use Rattle.search_reach.proofs.WidthRows.{halted_known, left_is, turn_there, way_to}
+use Rattle.search_order.specs.Searches.{IsLeft}
+use Rattle.nom_search.specs.declared.searching.Why.{Why}
+use Rattle.nom_search.specs.declared.searching.Why.TheVariants.{Budget, Grid}
+use Rattle.nom_search.specs.Halted.{Halted}
+use Rattle.nom_search.specs.Sought.{sought}
+use Rattle.search_reach.specs.Widths.{is_half, halves, heads_to, width_in, HalvingsAreFewIn, FewHalvingsWhereHalted, FewHalvingsWhereRefuted, IsNarrowed, NamedIsNarrow, NamedBoxesAreNarrow}
+use Rattle.search_reach.proofs.WidthRows.{SplitsAreKnown, halted_known, left_is, turn_there, way_to}
 use Rattle.search_reach.proofs.WidthEnds.{var_is, steps_narrow, steps_same_part}
 use Rattle.search_reach.proofs.WidthWays.{Led, led_fits}
 use Rattle.search_reach.proofs.WidthHalves.{count, Shrunk, shrunk, narrower, halvings_few}
 use Rattle.search_reach.proofs.WidthRounds.{rounds_give}
 use Rattle.search_reach.proofs.WidthTurns.{in_turn}
 
-opening_fits : (p : Network) → BoxFits p (opening pool_scale p)
+pub opening_fits : (p : Network) → BoxFits p (opening pool_scale p)
 opening_fits p = record { flows = length-map p.arcs (flow_ends pool_scale); squares = length-map p.nodes (square_ends pool_scale) }
 
-pub few_halvings : HalvingsAreFew
-few_halvings p tol budget why rows text line halted n r here v m at_most =
+few_halvings_in : (p : Network) (tol : ℤ) (rows : List Row) (boxes : List PartBox) (turns : List ℕ) → IsMap rows → IsOf (rules_of p) (root_box pool_scale p) rows boxes → SplitsAreKnown p tol rows boxes turns → HalvingsAreFewIn p rows
+few_halvings_in p tol rows boxes turns map pool known n r here v m at_most =
     let root = root_box pool_scale p in
-    let known = halted_known p tol root budget why rows halted.boxes halted.turns halted.named halted.map halted.halts in
-    let b = get_some halted.boxes n (let a = slice_get_within rows n r here in let e = halted.of_root.count in omega arith) in
-    let t = turn_there (slice_get halted.turns n) in
-    let led = way_to p tol root rows halted.boxes halted.turns halted.map halted.of_root known r.path n r b.0 t.0 here b.1 t.1 refl in
+    let b = get_some boxes n (let a = slice_get_within rows n r here in let e = pool.count in omega arith) in
+    let t = turn_there (slice_get turns n) in
+    let led = way_to p tol root rows boxes turns map pool known r.path n r b.0 t.0 here b.1 t.1 refl in
     halvings_few p root (heads_to rows r.path) b.0 t.0 v m (opening_fits p) led at_most
+
+pub few_halvings_where_halted : FewHalvingsWhereHalted
+few_halvings_where_halted p tol budget why rows text line halted =
+    few_halvings_in p tol rows halted.boxes halted.turns halted.map halted.of_root
+    (halted_known p tol (root_box pool_scale p) budget why rows halted.boxes halted.turns halted.named halted.map halted.halts)
+
+pub few_halvings_where_refuted : FewHalvingsWhereRefuted
+few_halvings_where_refuted p tol budget rows text refuted =
+    let worked = refuted.worked in
+    few_halvings_in p tol rows refuted.boxes refuted.turns worked.map worked.pool (λ n r f first count here split. worked.known n r here)
 
 -- a variable of a list stands at some place of it
 place_in : (v : Var) (xs : List Var) → list_any (same_var v) xs ≡ true → (i : ℕ) × (i < length xs) × (get_or xs i no_var ≡ v)
@@ -84,15 +99,28 @@ narrow_at p root shape hs b turn w v r fits is among led less enough =
           omega (arith, linear)
     ]
 
-pub narrow_named : NamedBoxesAreNarrow
-narrow_named p tol budget rows text line halted shape is v among r enough =
+-- each box, as its steps leave it
+narrow_left : (p : Network) (tol : ℤ) (rows : List Row) (boxes : List PartBox) (turns : List ℕ) → IsMap rows → IsOf (rules_of p) (root_box pool_scale p) rows boxes → SplitsAreKnown p tol rows boxes turns
+    → (n : ℕ) (r : Row) (turn : ℕ) (box : PartBox) → slice_get rows n ≡ Some r → IsLeft (sought p tol) boxes turns n r.steps turn box → IsNarrowed p rows r.path box
+narrow_left p tol rows boxes turns map pool known n r turn box here left shape is v among times enough =
     let root = root_box pool_scale p in
-    let stop = halted.halts in
-    let left = stop.left in
-    let known = halted_known p tol root budget Budget rows halted.boxes halted.turns halted.named halted.map stop in
-    let led = way_to p tol root rows halted.boxes halted.turns halted.map halted.of_root known stop.row.path halted.named stop.row left.start stop.turn stop.here left.here (λ t e. let g = left.turned in cc) refl in
-    let box : stop.box ≡ after left.start stop.row.steps = left_is p tol halted.boxes halted.turns halted.named stop.row.steps stop.turn stop.box left in
-    let part : stop.box.part ≡ left.start.part = ap (λ (x : PartBox). x.part) box ∙ steps_same_part left.start stop.row.steps in
-    let steps = steps_narrow p left.start stop.row.steps v (led_fits p root (heads_to rows stop.row.path) left.start stop.turn (opening_fits p) led) left.moves in
-    narrow_at p root shape (heads_to rows stop.row.path) left.start stop.turn (width_in stop.box v) v r (opening_fits p) (subst (λ (x : PartState). IsShapeOf p x shape) part is) among led
-    (rw box steps) enough
+    let led = way_to p tol root rows boxes turns map pool known r.path n r left.start turn here left.here (λ t e. let g = left.turned in cc) refl in
+    let same : box ≡ after left.start r.steps = left_is p tol boxes turns n r.steps turn box left in
+    let part : box.part ≡ left.start.part = ap (λ (x : PartBox). x.part) same ∙ steps_same_part left.start r.steps in
+    let steps = steps_narrow p left.start r.steps v (led_fits p root (heads_to rows r.path) left.start turn (opening_fits p) led) left.moves in
+    narrow_at p root shape (heads_to rows r.path) left.start turn (width_in box v) v times (opening_fits p) (subst (λ (x : PartState). IsShapeOf p x shape) part is) among led
+    (rw same steps) enough
+
+named_narrow : (p : Network) (tol : ℤ) (budget : ℕ) (why : Why) (rows : List Row) (text : List ℕ) (line : ℕ) → (h : Halted p tol (root_box pool_scale p) budget why rows text line)
+    → SplitsAreKnown p tol rows h.boxes h.turns → NamedIsNarrow p tol budget why rows text line h
+named_narrow p tol budget Budget rows text line h known =
+    let stop = h.halts in
+    narrow_left p tol rows h.boxes h.turns h.map h.of_root known h.named stop.row stop.turn stop.box stop.here stop.left
+named_narrow p tol budget Grid rows text line h known =
+    let row = h.halts.2.row in
+    let k = h.halts.0.known h.named row h.halts.2.here in
+    narrow_left p tol rows h.boxes h.turns h.map h.of_root known h.named row k.turn k.box h.halts.2.here k.left
+
+pub narrow_named : NamedBoxesAreNarrow
+narrow_named p tol budget why rows text line h =
+    named_narrow p tol budget why rows text line h (halted_known p tol (root_box pool_scale p) budget why rows h.boxes h.turns h.named h.map h.halts)

@@ -1,5 +1,5 @@
 -- The rows of a search show a way to each box.
-use Rattle.std.proofs.Common.{◌≡◌, ℕ, zero, suc, ◌+◌, ◌<◌, sym, ap, subst, ◌∙◌, inl, inr, arith, ℤ, List, [], ◌∷◌, Option, Some, None}
+use Rattle.std.proofs.Common.{◌≡◌, ℕ, zero, suc, ◌+◌, ◌<◌, refl, length, sym, ap, subst, ◌∙◌, inl, inr, arith, ℤ, List, [], ◌∷◌, Option, Some, None}
 use Rattle.std.specs.Prelude.{slice_get, option_and_then}
 use Rattle.std.specs.Option.{option_map_or}
 use Rattle.gas_model.specs.Rows.{Network}
@@ -148,6 +148,17 @@ module _ (p : Network) (tol : ℤ) (root : PartBox) (rows : List Row) (boxes : L
       let (q, at, child) = (map.below h.parent h.row h.branch h.first h.count h.here h.split).1 h.nth h.within in
       let same : q ≡ r = (let e = h.number in cc) in
       sym child ∙ ap (λ (x : Row). x.path) same ∙ is
+
+  -- each box on the way has a head, but for the root
+  pub heads_length : (path : List ℕ) (n : ℕ) (r : Row) → slice_get rows n ≡ Some r → r.path ≡ path → length (heads_to rows path) ≡ length path
+  heads_length [] n r here is = refl
+  heads_length (k ∷ path) zero r here is = absurd (let e = (map.top r here).0 in cc)
+  heads_length (k ∷ path) (suc n) r here is =
+      let h = map.above n r here in
+      let head = map.headed n r here in
+      let whole = place (suc n) r (k ∷ path) here h is in
+      let above : h.row.path ≡ path = cc in
+      ap length (heads_split (suc n) r k path head.0 here is head.1) ∙ ap suc (heads_length path h.parent h.row h.here above)
 
   -- a way leads to each box
   pub way_to : (path : List ℕ) (n : ℕ) (r : Row) (b : PartBox) (turn : ℕ) → slice_get rows n ≡ Some r → slice_get boxes n ≡ Some b → IsTurnAt turns n turn → r.path ≡ path → Led p root (heads_to rows path) b turn

@@ -71,7 +71,7 @@ turn_of p split b turn d var C next within wide is =
     by_first split b turn d var C next (flows p split b turn) within wide (first (λ k. is_wide b (at_turn split turn k)) (length split)) refl is
 
 -- ---- halvings in turn
-more_halves : (v : Var) (h : Head) (hs : List Head) → count (halves v) hs ≤ count (halves v) (h ∷ hs)
+pub more_halves : (v : Var) (h : Head) (hs : List Head) → count (halves v) hs ≤ count (halves v) (h ∷ hs)
 more_halves v h hs = by (halves v h) refl
   where
     by : (t : Bool) → halves v h ≡ t → count (halves v) hs ≤ count (halves v) (h ∷ hs)

@@ -106,7 +106,7 @@ early_next (ByArc a) early = refl
 early_next (Halve v C next) early = absurd early
 early_next Least early = absurd early
 
-half_head : (p : Network) (part : PartState) (v : Var) (C : ℤ) (next n : ℕ) (h : Head) → slice_get (heads_of p part (Halve v C next)) n ≡ Some h → (low : Bool) × (h ≡ Half v low C)
+pub half_head : (p : Network) (part : PartState) (v : Var) (C : ℤ) (next n : ℕ) (h : Head) → slice_get (heads_of p part (Halve v C next)) n ≡ Some h → (low : Bool) × (h ≡ Half v low C)
 half_head p part v C next zero h e = (false, cc)
 half_head p part v C next (suc zero) h e = (true, cc)
 half_head p part v C next (suc (suc n)) h e = absurd cc

@@ -51,10 +51,12 @@ children_behind p i = if nat_lt i (length p.groups + length (loose_arcs p)) then
 abbrev pub children_at : Network → ℕ → ℕ
 children_at p i = option_map_or (λ g. length g.decisions) (slice_get p.groups i) (children_behind p i)
 
--- where a search stops for want of budget, the box that it names is deeper than each depth down to which the budget pays
--- for all boxes that there can be
+-- the path is longer than each depth down to which the budget pays for all boxes that there can be
+abbrev pub IsDeep : Network → (budget : ℕ) → List ℕ → Type 0
+IsDeep p budget path = (k : ℕ) → levels (children_at p) k ≤ budget → k < length path
+
+-- where a search stops for want of budget, the box that it names lies deep
 abbrev pub StoppedSearchesAreDeep : Type 0
 StoppedSearchesAreDeep =
     (p : Network) (tol : ℤ) (budget : ℕ) (rows : List Row) (text : List ℕ) (line : ℕ)
-    → (h : Halted p tol (root_box pool_scale p) budget Budget rows text line)
-    → (k : ℕ) → levels (children_at p) k ≤ budget → k < length h.halts.row.path
+    → (h : Halted p tol (root_box pool_scale p) budget Budget rows text line) → IsDeep p budget h.halts.row.path

@@ -1,3 +1,5 @@
 pub mod Depth
 pub mod StepPaths
 pub mod Widths
+pub mod Budgets
+pub mod Reached

@@ -12,7 +12,7 @@ use Rattle.search_order.specs.Searches.{IsWorked}
 use Rattle.box_pool.specs.Grid.{pool_scale}
 use Rattle.nom_search.specs.declared.searching.Why.{Why}
 use Rattle.nom_search.specs.Sought.{sought}
-use Rattle.nom_search.specs.Halted.{Halted}
+use Rattle.nom_search.specs.Halted.{Halted, Refutes}
 
 -- the steps in the box of this path alone
 abbrev pub steps_at : List Row → List ℕ → List Step
@@ -41,7 +41,13 @@ FewWhereHalted =
     (p : Network) (tol : ℤ) (budget : ℕ) (why : Why) (rows : List Row) (text : List ℕ) (line : ℕ)
     → IsWithin p → Halted p tol (root_box pool_scale p) budget why rows text line → StepsAreFewIn rows
 
--- and where a search has worked the boxes in their order
+-- where it refutes the problem
+abbrev pub FewWhereRefuted : Type 0
+FewWhereRefuted =
+    (p : Network) (tol : ℤ) (budget : ℕ) (rows : List Row) (text : List ℕ)
+    → IsWithin p → Refutes p tol (root_box pool_scale p) budget rows text → StepsAreFewIn rows
+
+-- and wherever it has worked the boxes in their order
 abbrev pub FewWhereWorked : Type 0
 FewWhereWorked =
     (p : Network) (tol : ℤ) (budget : ℕ) (rows : List Row) (boxes : List PartBox) (turns : List ℕ)

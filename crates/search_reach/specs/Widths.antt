@@ -14,8 +14,8 @@ use Rattle.tree_rules.specs.Branches.{same_var, root_box}
 use Rattle.tree_pool.specs.Rows.{Row, row_at}
 use Rattle.box_pool.specs.Grid.{pool_scale}
 use Rattle.nom_search.specs.declared.searching.Why.{Why}
-use Rattle.nom_search.specs.declared.searching.Why.TheVariants.{Budget}
-use Rattle.nom_search.specs.Halted.{Halted}
+use Rattle.nom_search.specs.declared.searching.Why.TheVariants.{Budget, Grid}
+use Rattle.nom_search.specs.Halted.{Halted, Refutes}
 
 -- the head of a half of any variable, and of this one
 abbrev pub is_half : Head → Bool
@@ -46,23 +46,41 @@ halvings_of v rows path = length (filter (halves v) (heads_to rows path))
 abbrev pub width_in : PartBox → Var → ℤ
 width_in b v = width_of (ends_of b.bounds v)
 
--- where a search halts, for whatever reason, a variable that is at most 2^m wide at first was halved at most m times on
--- the way to each box
-abbrev pub HalvingsAreFew : Type 0
-HalvingsAreFew =
-    (p : Network) (tol : ℤ) (budget : ℕ) (why : Why) (rows : List Row) (text : List ℕ) (line : ℕ)
-    → Halted p tol (root_box pool_scale p) budget why rows text line
-    → (n : ℕ) (r : Row) → slice_get rows n ≡ Some r
+-- a variable that is at most 2^m wide at first was halved at most m times on the way to each box
+abbrev pub HalvingsAreFewIn : Network → List Row → Type 0
+HalvingsAreFewIn p rows =
+    (n : ℕ) (r : Row) → slice_get rows n ≡ Some r
     → (v : Var) (m : ℕ) → width_in (root_box pool_scale p) v ≤ℤ pos (2 ^ m) → halvings_of v rows r.path ≤ m
 
--- Where a search stops for want of budget, take the box that it names, as its steps leave it, and the split list of its
--- part state. Where r times the length of that list is at most the number of halvings on the way to the box, each variable
--- of the list is so narrow there that its width less one, times 2^r, is at most its width at first.
+-- so it is where the search of a problem halts, for whatever reason
+abbrev pub FewHalvingsWhereHalted : Type 0
+FewHalvingsWhereHalted =
+    (p : Network) (tol : ℤ) (budget : ℕ) (why : Why) (rows : List Row) (text : List ℕ) (line : ℕ)
+    → Halted p tol (root_box pool_scale p) budget why rows text line → HalvingsAreFewIn p rows
+
+-- and where it refutes the problem
+abbrev pub FewHalvingsWhereRefuted : Type 0
+FewHalvingsWhereRefuted =
+    (p : Network) (tol : ℤ) (budget : ℕ) (rows : List Row) (text : List ℕ)
+    → Refutes p tol (root_box pool_scale p) budget rows text → HalvingsAreFewIn p rows
+
+-- Of the box at the end of this path, as its steps leave it: where r times the length of the split list of its part state is
+-- at most the number of halvings on the way to it, each variable of the list is so narrow there that its width less one,
+-- times 2^r, is at most its width at first.
+abbrev pub IsNarrowed : Network → List Row → List ℕ → PartBox → Type 0
+IsNarrowed p rows path box =
+    (shape : Layout) → IsShapeOf p box.part shape
+    → (v : Var) → IsTrue (list_any (same_var v) shape.split_list)
+    → (r : ℕ) → length shape.split_list * r ≤ halvings rows path
+    → (pos (2 ^ r) *ℤ (width_in box v -ℤ pos 1)) ≤ℤ width_in (root_box pool_scale p) v
+
+-- the box that is named is narrow, as its steps leave it
+abbrev pub NamedIsNarrow : (p : Network) (tol : ℤ) (budget : ℕ) (why : Why) (rows : List Row) (text : List ℕ) (line : ℕ) → Halted p tol (root_box pool_scale p) budget why rows text line → Type 0
+NamedIsNarrow p tol budget Budget rows text line h = IsNarrowed p rows h.halts.row.path h.halts.box
+NamedIsNarrow p tol budget Grid rows text line h = IsNarrowed p rows h.halts.2.row.path (h.halts.0.known h.named h.halts.2.row h.halts.2.here).box
+
+-- so it is where a search halts, for whatever reason
 abbrev pub NamedBoxesAreNarrow : Type 0
 NamedBoxesAreNarrow =
-    (p : Network) (tol : ℤ) (budget : ℕ) (rows : List Row) (text : List ℕ) (line : ℕ)
-    → (h : Halted p tol (root_box pool_scale p) budget Budget rows text line)
-    → (shape : Layout) → IsShapeOf p h.halts.box.part shape
-    → (v : Var) → IsTrue (list_any (same_var v) shape.split_list)
-    → (r : ℕ) → length shape.split_list * r ≤ halvings rows h.halts.row.path
-    → (pos (2 ^ r) *ℤ (width_in h.halts.box v -ℤ pos 1)) ≤ℤ width_in (root_box pool_scale p) v
+    (p : Network) (tol : ℤ) (budget : ℕ) (why : Why) (rows : List Row) (text : List ℕ) (line : ℕ)
+    → (h : Halted p tol (root_box pool_scale p) budget why rows text line) → NamedIsNarrow p tol budget why rows text line h

@@ -2,10 +2,14 @@
 //! tightened and halved.
 #![tactic(auto)]
 
+mod budgets;
 mod depth;
+mod reached;
 mod steps;
 mod widths;
 
+pub use budgets::enough_budgets_suffice;
 pub use depth::stopped_searches_are_deep;
+pub use reached::halted_searches_reach;
 pub use steps::steps_on_paths_are_few;
 pub use widths::{halvings_are_few, named_boxes_are_narrow};
