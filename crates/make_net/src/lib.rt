@@ -7,7 +7,7 @@ mod making;
 mod names;
 mod nodes;
 
-pub use making::{MakeFault, make};
+pub use making::{MakeFault, is_count, make};
 
 #[cfg(test)]
 mod tests;

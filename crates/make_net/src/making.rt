@@ -39,7 +39,8 @@ impl From<ModelFault> for MakeFault {
     }
 }
 
-fn is_count(count: u32) -> bool
+/// Whether there is a problem of so many nodes: of 1 to 2,000.
+pub fn is_count(count: u32) -> bool
     ensures { result ≡ is_count count }
 {
     1 <= count && count <= MOST

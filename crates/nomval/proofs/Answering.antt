@@ -1,5 +1,5 @@
 -- What the headline says, of the one command that answers so.
-use Rattle.std.proofs.Common.{◌≡◌, subst, append_assoc, ℕ, List, [], ◌∷◌, ◌++◌, pos}
+use Rattle.std.proofs.Common.{◌≡◌, subst, append_assoc, ℕ, List, [], ◌∷◌, ◌++◌, ◌⊎◌, inl, inr, pos}
 use Rattle.std.proofs.lemmas.List.{append-nil}
 use Rattle.std.specs.Prelude.{Ok, Some, codes, decimal}
 use Rattle.gas_model.specs.declared.rows.Setting.{Setting}
@@ -13,15 +13,16 @@ use Rattle.command_core.specs.declared.status.UndecidedBy.{UndecidedBy}
 use Rattle.command_core.specs.declared.status.Status.TheVariants as ends
 use Rattle.command_core.specs.Gates.{any_bytes, file_is, stands}
 use Rattle.command_core.specs.Lines.{law_word, not_text, open_word}
-use Rattle.command_core.specs.Meanings.{Answered, AllWritten, Distinct, Says, Texts}
+use Rattle.command_core.specs.Meanings.{Answered, AllWritten, Distinct, IsWritten, Says, Texts}
 use Rattle.nomval.specs.Check.{IsNoRefutation, PassesIt}
 use Rattle.nomval.specs.Commands.{meaning}
+use Rattle.nomval.specs.Make.{made_line}
 use Rattle.nomval.specs.Named.{id_of}
-use Rattle.nomval.specs.Headline.{Writes, HasCarried, HasRefuted, HasWritten, LeavesOpen, Replayed, IsKept, IsBroken, Checked, HasPassed, HasNotPassed}
+use Rattle.nomval.specs.Headline.{Writes, HasCarried, HasRefuted, HasWritten, HasMade, LeavesOpen, Replayed, IsKept, IsBroken, Checked, HasPassed, HasNotPassed}
 use Rattle.nomval.specs.Replay.{BreaksFirst, setting_is}
 use Rattle.nomval.specs.Solve.{Carries, HaltsWith}
 use Rattle.nomval.specs.Sources.{Origin, problem_is}
-use Rattle.nomval.specs.Plain.{Words, Plain, solve, replay, check, flatten, plain}
+use Rattle.nomval.specs.Plain.{Words, Plain, solve, replay, check, flatten, make, plain}
 
 -- a line with this beside it
 line_with : (line beside note : List ℕ) (before now : Outside) → note ≡ beside → Says (line ++ note) before now → Says (line ++ beside) before now
@@ -31,12 +32,18 @@ line_with line beside note before now e said = subst (λ (x : List ℕ). Says (l
 line_alone : (line note : List ℕ) (before now : Outside) → note ≡ [] → Says (line ++ note) before now → Says line before now
 line_alone line note before now e said = subst (λ (x : List ℕ). Says x before now) (append-nil line) (line_with line [] note before now e said)
 
+-- the one OUT with this text
+out_holds : (out text : List ℕ) (texts : Texts) (before now : Outside) → texts ≡ Some text ∷ [] → (Distinct (out ∷ []) → AllWritten (out ∷ []) texts before now) → IsWritten out (Some text) before now
+out_holds out text texts before now one held =
+    let all : AllWritten (out ∷ []) (Some text ∷ []) before now = subst (λ (x : Texts). AllWritten (out ∷ []) x before now) one (held (tt, tt)) in
+    all.0
+
 -- an OUT with a text of this kind
 written : (IsText : (tol boxes : ℕ) → Network → List ℕ → Type 0) (line : List ℕ) (words : Words) (origin : Origin) (out : List ℕ) (tol boxes : ℕ) (before now : Outside) (p : Network) (text : List ℕ) (texts : Texts)
     → plain words ≡ Ok (solve origin out tol boxes) → problem_is origin before.files ≡ stands p → IsText tol boxes p text → texts ≡ Some text ∷ []
     → (Distinct (out ∷ []) → AllWritten (out ∷ []) texts before now) → Says line before now → Writes IsText line words before now
 written IsText line words origin out tol boxes before now p text texts e is is_text one held said =
-    let all : AllWritten (out ∷ []) (Some text ∷ []) before now = subst (λ (x : Texts). AllWritten (out ∷ []) x before now) one (held (tt, tt)) in
+    let all = out_holds out text texts before now one held in
     record {
       origin = origin;
       out = out;
@@ -47,8 +54,8 @@ written IsText line words origin out tol boxes before now p text texts e is is_t
       is_plain = e;
       stands_for = is;
       is_text = is_text;
-      holds = all.0.0;
-      finished = all.0.1;
+      holds = all.0;
+      finished = all.1;
       said = said;
     }
 
@@ -114,20 +121,35 @@ open_at why words (solve origin out tol boxes) before now e own a =
 open_at why words c before now e own a = absurd own
 
 pub written_at : (words : Words) (c : Plain) (before now : Outside) → plain words ≡ Ok c
-    → (meaning c).may ends.Written → Answered (meaning c) before now ends.Written → HasWritten words before now
+    → (meaning c).may ends.Written → Answered (meaning c) before now ends.Written → HasWritten words before now ⊎ HasMade words before now
 written_at words (flatten origin out) before now e own a =
     let w = a.answers.says in
-    let all : AllWritten (out ∷ []) (Some (flat_text a.answers.problem) ∷ []) before now = subst (λ (x : Texts). AllWritten (out ∷ []) x before now) w.one (a.held (tt, tt)) in
-    record {
+    let all = out_holds out (flat_text a.answers.problem) a.texts before now w.one a.held in
+    inl (record {
       origin = origin;
       out = out;
       problem = a.answers.problem;
       is_plain = e;
       stands_for = a.answers.stands_for;
-      holds = all.0.0;
-      finished = all.0.1;
+      holds = all.0;
+      finished = all.1;
       said = line_with [] (codes "written") a.note before now w.noted a.said;
-    }
+    })
+written_at words (make count out) before now e own a =
+    let w = a.answers.says in
+    let all = out_holds out (flat_text a.answers.problem) a.texts before now w.one a.held in
+    inr (record {
+      count = count;
+      out = out;
+      problem = a.answers.problem;
+      answer = w.answer;
+      is_plain = e;
+      is_made = a.answers.is_made;
+      found = w.found;
+      holds = all.0;
+      finished = all.1;
+      said = line_with [] (made_line count a.answers.problem w.answer) a.note before now w.noted a.said;
+    })
 written_at words c before now e own a = absurd own
 
 pub kept_at : (words : Words) (c : Plain) (before now : Outside) → plain words ≡ Ok c

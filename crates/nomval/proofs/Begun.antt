@@ -1,5 +1,5 @@
 -- What is found for a problem: the search of a new pool begins at the box of all bounds, and what it finds is read back.
-use Rattle.std.proofs.Common.{◌≡◌, refl, ℕ, ◌<◌, ◌&&◌, true, false, Bool, List, length, pos, get_or}
+use Rattle.std.proofs.Common.{◌≡◌, refl, ℕ, ℤ, ◌<◌, ◌&&◌, true, false, Bool, List, length, pos, get_or}
 use Rattle.std.specs.Prelude.{Option, Some, None, IsTrue, slice_get, replicate, map}
 use Rattle.std.proofs.lemmas.List.{length-map, length-replicate, get_or-replicate}
 use Rattle.std.proofs.lemmas.Option.{slice_get_within, get_or_from_slice_get}
@@ -41,8 +41,8 @@ pub begins : (p : Network) (pool : Boxed) → IsNew p (fresh_part p) (opening po
 begins p pool new = record { new = new; scale = refl; part = fresh_fits p; bounds = opening_fits p }
 
 -- the text of a tree that refutes passes
-pub passes_whole : (p : Network) (rows : List Row) (text : List ℕ) → Refutes p (root_box pool_scale p) rows text → PassesWholeText (rules_of p) text
-passes_whole p rows text r = record {
+pub passes_whole : (p : Network) (tol : ℤ) (budget : ℕ) (rows : List Row) (text : List ℕ) → Refutes p tol (root_box pool_scale p) budget rows text → PassesWholeText (rules_of p) text
+passes_whole p tol budget rows text r = record {
   lines = tree_lines pool_line r.tree;
   text = r.is_text.lines;
   passes = (r.tree, record { first = pool_line; passes = r.passes; lines = refl }, r.closed);

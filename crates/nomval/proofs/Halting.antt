@@ -1,7 +1,8 @@
--- The text with which a search halts passes but for open boxes.
+-- The text with which a search halts passes but for open boxes, and the search has come as far as it reaches.
 use Rattle.std.proofs.Common.{◌≡◌, refl, ap, sym, subst, ℕ, ℤ, pos, List}
 use Rattle.std.specs.Prelude.{Option, Some, None, slice_get}
 use Rattle.gas_model.specs.Rows.{Network}
+use Rattle.gas_model.specs.Within.{IsWithin}
 use Rattle.tree_cert.specs.Texts.{PassesPartText, first_open}
 use Rattle.tree_cert.specs.Tree.{IsClosed, tree_lines}
 use Rattle.tree_cert.proofs.Opens.{closed_trees_have_no_open_line}
@@ -15,6 +16,7 @@ use Rattle.box_pool.specs.Grid.{pool_scale, pool_line}
 use Rattle.nom_search.specs.declared.searching.Why.{Why}
 use Rattle.nom_search.specs.declared.searching.Why.TheVariants.{Budget, Grid}
 use Rattle.nom_search.specs.Halted.{Halted, HaltsAt}
+use Rattle.search_reach.proofs.Reaching.{halted_reach}
 use Rattle.command_core.specs.declared.status.UndecidedBy.{UndecidedBy}
 use Rattle.nomval.specs.Solve.{HaltsWith, why_of}
 
@@ -50,8 +52,15 @@ halted_passes p tol budget why rows text line h =
     )
 
 -- what is said of the search, by the reason that is answered
-pub halts_with : (by : UndecidedBy) (tol boxes : ℕ) (p : Network) (why : Why) (rows : List Row) (text : List ℕ) (line : ℕ) → why_of by ≡ why
+pub halts_with : (by : UndecidedBy) (tol boxes : ℕ) (p : Network) (why : Why) (rows : List Row) (text : List ℕ) (line : ℕ) → IsWithin p → why_of by ≡ why
     → Halted p (pos tol) (root_box pool_scale p) boxes why rows text line → HaltsWith by tol boxes p text line
-halts_with by tol boxes p why rows text line is h =
+halts_with by tol boxes p why rows text line within is h =
     let passes = halted_passes p (pos tol) boxes why rows text line h in
-    record { rows = rows; halted = subst (λ (w : Why). Halted p (pos tol) (root_box pool_scale p) boxes w rows text line) (sym is) h; first_open = passes.0; passes = passes.1 }
+    let halted : Halted p (pos tol) (root_box pool_scale p) boxes (why_of by) rows text line = subst (λ (w : Why). Halted p (pos tol) (root_box pool_scale p) boxes w rows text line) (sym is) h in
+    record {
+      rows = rows;
+      halted = halted;
+      reached = halted_reach p (pos tol) boxes (why_of by) rows text line within halted;
+      first_open = passes.0;
+      passes = passes.1;
+    }

@@ -16,7 +16,7 @@ use Rattle.command_core.specs.Stops.{HoldsNoWant, IsAnswer, IsRefusal, IsFault, 
 use Rattle.command_core.specs.Meanings.{Concluded, Speaks, spoken, no_memory, unsaid, Answered, Refused, Part, Says, SameButOuts, Excused, Due}
 use Rattle.command_core.proofs.Conclusions as conclusions
 use Rattle.nomval.specs.Commands.{Ran, carried, misused, meaning, ForCommand, OnCommand}
-use Rattle.nomval.specs.Headline.{HasCarried, HasRefuted, HasWritten, LeavesOpen, IsKept, IsBroken, HasPassed, HasNotPassed}
+use Rattle.nomval.specs.Headline.{HasCarried, HasRefuted, HasWritten, HasMade, LeavesOpen, IsKept, IsBroken, HasPassed, HasNotPassed}
 use Rattle.nomval.specs.Plain.{Words, Plain, IsPlace, plain}
 use Rattle.nomval.proofs.Answering.{carried_at, refuted_at, open_at, written_at, kept_at, broken_at, passed_at, not_passed_at}
 use Rattle.nomval.proofs.Places.{place_of}
@@ -74,7 +74,7 @@ module _ (tells exact : Type 0) (words : Words) (before now : Outside) (status :
   pub undecided : tells → (why : UndecidedBy) → status ≡ ends.Undecided why → LeavesOpen why words before now
   undecided t why e = let f = as_of (ends.Undecided why) e tt in open_at why words f.0 before now f.1 (f.2.may tt) (conclusions.answered_of (meaning f.0) before now (ends.Undecided why) tt (f.2.case t))
 
-  pub written : tells → status ≡ ends.Written → HasWritten words before now
+  pub written : tells → status ≡ ends.Written → HasWritten words before now ⊎ HasMade words before now
   written t e = let f = as_of ends.Written e tt in written_at words f.0 before now f.1 (f.2.may tt) (conclusions.answered_of (meaning f.0) before now ends.Written tt (f.2.case t))
 
   pub kept : tells → status ≡ ends.Kept → IsKept words before now

@@ -4,7 +4,9 @@ pub mod Findings
 pub mod RefutedText
 pub mod Parsed
 pub mod Joining
+pub mod Writing
 pub mod Flattening
+pub mod Making
 pub mod Solving
 pub mod Replaying
 pub mod Checking

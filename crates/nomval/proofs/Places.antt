@@ -8,8 +8,9 @@ use Rattle.nomval.specs.declared.words.Choice.TheVariants.{Tol, Boxes}
 use Rattle.nomval.specs.declared.words.Offer.{Offer}
 use Rattle.nomval.specs.declared.words.Offer.TheVariants.{TolAlone, TolAndBoxes}
 use Rattle.nomval.specs.Budgets.{budget_of}
+use Rattle.nomval.specs.Counts.{count_of}
 use Rattle.nomval.specs.Sources.{Origin, flat, joined}
-use Rattle.nomval.specs.Plain.{Words, Options, Plain, solve, replay, check, flatten, ◌>>=◌, is_file_word, file_at, no_more, option_in, give, options_at, none_given, has_boxes, tolerance_of, boxes_of, groups_file, flat_then, joined_then, solve_words, replay_words, check_words, flatten_words, plain, IsPlace}
+use Rattle.nomval.specs.Plain.{Words, Options, Plain, solve, replay, check, flatten, make, ◌>>=◌, is_file_word, file_at, count_in, count_at, no_more, option_in, give, options_at, none_given, has_boxes, tolerance_of, boxes_of, groups_file, flat_then, joined_then, solve_words, replay_words, check_words, flatten_words, make_words, plain, IsPlace}
 
 abbrev err : (X : Type 0) → ℕ → Result X ℕ
 err X n = Err n
@@ -113,46 +114,93 @@ map_stops {X} {Y} n f g s = record {
     was_read (Ok x) y e = (x, refl)
     was_read (Err n) y e = absurd (cc)
 
--- a word that names a file
-a_file : List ℕ
-a_file = 97 ∷ []
-
 wrong_first : {X : Type 0} (n at : ℕ) → err X n ≡ Err at → at ≡ n
 wrong_first n at e = let same : n ≡ at = cc in sym same
 
-module _ {X : Type 0} (n : ℕ) (next : List ℕ → Words → Result X ℕ) (s : (name : List ℕ) → Stops (n + 1) (next name)) where
-  then_next : Result (List ℕ × Words) ℕ → Result X ℕ
+-- a word that is read by itself, or refused at its place, and the words after it
+record Head {A : Type 0} (n : ℕ) (cut : Words → Result (A × Words) ℕ) : Type 0 where
+  read : List ℕ → Result A ℕ
+  none : cut [] ≡ Err n
+  some : (word : List ℕ) (tail : Words) → cut (word ∷ tail) ≡ (read word >>= λ x. Ok (x, tail))
+  place : (word : List ℕ) (at : ℕ) → read word ≡ Err at → at ≡ n
+  good : List ℕ
+  value : A
+  is_good : read good ≡ Ok value
+
+module _ {A X : Type 0} (n : ℕ) (cut : Words → Result (A × Words) ℕ) (head : Head n cut) (next : A → Words → Result X ℕ) (s : (x : A) → Stops (n + 1) (next x)) where
+  then_next : Result (A × Words) ℕ → Result X ℕ
   then_next r = r >>= λ x. next x.0 x.1
 
-  file_then : Words → Result X ℕ
-  file_then ws = file_at n ws >>= λ x. next x.0 x.1
+  cut_then : Words → Result X ℕ
+  cut_then ws = cut ws >>= λ x. next x.0 x.1
 
-  reads_on : (word : List ℕ) (tail : Words) → is_file_word word ≡ true → file_then (word ∷ tail) ≡ next word tail
-  unfolding file_then then_next
-  reads_on word tail e = ap (λ b. then_next (cond b (Ok (word, tail)) (Err n))) e
-
-  no_file : (word : List ℕ) (tail : Words) → is_file_word word ≡ false → file_then (word ∷ tail) ≡ Err n
-  unfolding file_then then_next
-  no_file word tail e = ap (λ b. then_next (cond b (Ok (word, tail)) (Err n))) e
-
-  reads_some : file_then (a_file ∷ (s a_file).words) ≡ Ok (s a_file).read
-  unfolding file_then a_file
-  reads_some = (s (97 ∷ [])).reads
-
-  file_stop : (ws : Words) (at : ℕ) → file_then ws ≡ Err at → IsStop n file_then ws at
-  unfolding file_then
-  file_stop [] at e = first_stop n file_then [] at (a_file ∷ (s a_file).words) (s a_file).read (wrong_first n at e) reads_some (λ word later tail x is h. cc)
-  file_stop (w ∷ ws) at e = by (is_file_word w) refl
+  reads_on : (word : List ℕ) (tail : Words) (r : Result A ℕ) → head.read word ≡ r → cut_then (word ∷ tail) ≡ (r >>= λ x. next x tail)
+  unfolding cut_then then_next
+  reads_on word tail r e = ap then_next (head.some word tail ∙ ap (λ (q : Result A ℕ). q >>= λ x. Ok (x, tail)) e) ∙ by r
     where
-      by : (b : Bool) → is_file_word w ≡ b → IsStop n file_then (w ∷ ws) at
-      by true t = later_stop n file_then (next w) w ws at (λ tail. reads_on w tail t) ((s w).stop ws at (sym (reads_on w ws t) ∙ e))
-      by false t = first_stop n file_then (w ∷ ws) at (a_file ∷ (s a_file).words) (s a_file).read (wrong_first n at (sym (no_file w ws t) ∙ e)) reads_some
-          (λ word later tail x is h. let same : w ≡ word = cc in let bad : Err n ≡ Ok x = sym (no_file word tail (subst (λ y. is_file_word y ≡ false) same t)) ∙ h in cc)
+      by : (q : Result A ℕ) → then_next (q >>= λ x. Ok (x, tail)) ≡ (q >>= λ x. next x tail)
+      by (Ok x) = refl
+      by (Err k) = refl
 
-  -- a word that names a file, and others
-  file_stops : Stops n (λ ws. file_at n ws >>= λ x. next x.0 x.1)
-  unfolding file_then
-  file_stops = record { words = a_file ∷ (s a_file).words; read = (s a_file).read; reads = reads_some; stop = file_stop }
+  reads_none : cut_then [] ≡ Err n
+  unfolding cut_then then_next
+  reads_none = ap then_next head.none
+
+  reads_some : cut_then (head.good ∷ (s head.value).words) ≡ Ok (s head.value).read
+  reads_some = reads_on head.good (s head.value).words (Ok head.value) head.is_good ∙ (s head.value).reads
+
+  cut_stop : (ws : Words) (at : ℕ) → cut_then ws ≡ Err at → IsStop n cut_then ws at
+  cut_stop [] at e = first_stop n cut_then [] at (head.good ∷ (s head.value).words) (s head.value).read (wrong_first n at (sym reads_none ∙ e)) reads_some (λ word later tail x is h. cc)
+  cut_stop (w ∷ ws) at e = by (head.read w) refl
+    where
+      by : (r : Result A ℕ) → head.read w ≡ r → IsStop n cut_then (w ∷ ws) at
+      by (Ok a) t = later_stop n cut_then (next a) w ws at (λ tail. reads_on w tail (Ok a) t) ((s a).stop ws at (sym (reads_on w ws (Ok a) t) ∙ e))
+      by (Err k) t = first_stop n cut_then (w ∷ ws) at (head.good ∷ (s head.value).words) (s head.value).read (wrong_first k at (sym (reads_on w ws (Err k) t) ∙ e) ∙ head.place w k t) reads_some
+          (λ word later tail x is h. let same : w ≡ word = cc in let bad : Err k ≡ Ok x = sym (reads_on word tail (Err k) (subst (λ y. head.read y ≡ Err k) same t)) ∙ h in cc)
+
+  -- such a word, and others
+  head_stops : Stops n (λ ws. cut ws >>= λ x. next x.0 x.1)
+  unfolding cut_then
+  head_stops = record { words = head.good ∷ (s head.value).words; read = (s head.value).read; reads = reads_some; stop = cut_stop }
+
+-- a word that names a file
+file_head : (n : ℕ) → Head n (file_at n)
+file_head n = record {
+  read = λ word. cond (is_file_word word) (Ok word) (Err n);
+  none = refl;
+  some = λ word tail. some word tail (is_file_word word);
+  place = λ word at e. place word at (is_file_word word) e;
+  good = 97 ∷ [];
+  value = 97 ∷ [];
+  is_good = refl;
+}
+  where
+    some : (word : List ℕ) (tail : Words) (b : Bool) → cond b (Ok (word, tail)) (err (List ℕ × Words) n) ≡ (cond b (Ok word) (err (List ℕ) n) >>= λ x. Ok (x, tail))
+    some word tail true = refl
+    some word tail false = refl
+
+    place : (word : List ℕ) (at : ℕ) (b : Bool) → cond b (Ok word) (err (List ℕ) n) ≡ Err at → at ≡ n
+    place word at true e = absurd (cc)
+    place word at false e = wrong_first n at e
+
+file_stops : {X : Type 0} (n : ℕ) (next : List ℕ → Words → Result X ℕ) → ((name : List ℕ) → Stops (n + 1) (next name)) → Stops n (λ ws. file_at n ws >>= λ x. next x.0 x.1)
+file_stops n next s = head_stops n (file_at n) (file_head n) next s
+
+-- a word that is a number of nodes: 1 is one
+count_head : (n : ℕ) → Head n (count_at n)
+count_head n = record {
+  read = λ word. count_in n (natural word);
+  none = refl;
+  some = λ word tail. refl;
+  place = λ word at e. place (option_and_then count_of (natural word)) at e;
+  good = 49 ∷ [];
+  value = 1;
+  is_good = refl;
+}
+  where
+    place : (o : Option ℕ) (at : ℕ) → ok_or o n ≡ Err at → at ≡ n
+    place None at e = wrong_first n at e
+    place (Some count) at e = absurd (cc)
 
 -- no word more
 end_stops : (n : ℕ) → Stops n (no_more n)
@@ -318,6 +366,10 @@ flatten_stops : (n : ℕ) (origin : Origin) → Stops n (flatten_words n origin)
 flatten_stops n origin = file_stops n (λ out ws. no_more (n + 1) ws >>= λ end. Ok (flatten origin out))
     (λ out. map_stops (n + 1) (no_more (n + 1)) (λ end. flatten origin out) (end_stops (n + 1)))
 
+make_stops : Stops 1 make_words
+make_stops = head_stops 1 (count_at 1) (count_head 1) (λ count ws. file_at 2 ws >>= λ out. no_more 3 out.1 >>= λ end. Ok (make count out.0))
+    (λ count. file_stops 2 (λ out ws. no_more 3 ws >>= λ end. Ok (make count out)) (λ out. map_stops 3 (no_more 3) (λ end. make count out) (end_stops 3)))
+
 -- from word 1 on, with a flat problem
 flat_stops : (next : ℕ → Origin → Words → Result Plain ℕ) → ((origin : Origin) → Stops 2 (next 2 origin)) → Stops 1 (flat_then next)
 flat_stops next s = same_stops 1 (flat_then next) (λ ws. file_at 1 ws >>= λ x. next 2 (flat x.0) x.1) (λ ws. by (file_at 1 ws))
@@ -376,8 +428,11 @@ choice true f g s others = inl s
 choice false f g s others = others
 
 -- the commands, from the last one back
+abbrev from_make : List ℕ → Words → Result Plain ℕ
+from_make word ws = cond (bytes_eq word (codes "make")) (make_words ws) (Err 0)
+
 abbrev from_flat : List ℕ → Words → Result Plain ℕ
-from_flat word ws = cond (bytes_eq word (codes "flat")) (joined_then flatten_words ws) (Err 0)
+from_flat word ws = cond (bytes_eq word (codes "flat")) (joined_then flatten_words ws) (from_make word ws)
 
 abbrev from_check : List ℕ → Words → Result Plain ℕ
 from_check word ws = cond (bytes_eq word (codes "check")) (joined_then check_words ws) (from_flat word ws)
@@ -402,8 +457,9 @@ command_stops word =
     (choice (bytes_eq word (codes "solve")) (joined_then solve_words) (from_replay word) (joined_stops solve_words (solve_stops 5))
     (choice (bytes_eq word (codes "replay")) (joined_then replay_words) (from_check word) (joined_stops replay_words (replay_stops 5))
     (choice (bytes_eq word (codes "check")) (joined_then check_words) (from_flat word) (joined_stops check_words (check_stops 5))
-    (choice (bytes_eq word (codes "flat")) (joined_then flatten_words) (λ ws. Err 0) (joined_stops flatten_words (flatten_stops 5))
-    (inr (λ ws. refl))))))))
+    (choice (bytes_eq word (codes "flat")) (joined_then flatten_words) (from_make word) (joined_stops flatten_words (flatten_stops 5))
+    (choice (bytes_eq word (codes "make")) make_words (λ ws. Err 0) make_stops
+    (inr (λ ws. refl)))))))))
 
 -- some words are plain
 plain_words : Words

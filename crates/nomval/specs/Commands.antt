@@ -9,13 +9,15 @@ use Rattle.nomval.specs.Solve.{solve_meaning}
 use Rattle.nomval.specs.Replay.{replay_meaning}
 use Rattle.nomval.specs.Check.{check_meaning}
 use Rattle.nomval.specs.Flatten.{flatten_meaning}
-use Rattle.nomval.specs.Plain.{Words, Plain, solve, replay, check, flatten, plain}
+use Rattle.nomval.specs.Make.{make_meaning}
+use Rattle.nomval.specs.Plain.{Words, Plain, solve, replay, check, flatten, make, plain}
 
 abbrev pub meaning : Plain → Meaning
 meaning (solve origin out tol boxes) = solve_meaning origin out tol boxes
 meaning (replay origin setting tol) = replay_meaning origin setting tol
 meaning (check origin tree) = check_meaning origin tree
 meaning (flatten origin out) = flatten_meaning origin out
+meaning (make count out) = make_meaning count out
 
 -- plain words were carried out, or others refused
 pub data Ran (tells exact : Type 0) (words : Words) (before now : Outside) (status : Status) : Type 0 where

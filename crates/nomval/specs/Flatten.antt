@@ -3,10 +3,10 @@ use Rattle.std.specs.Prelude.{◌≡◌, ℕ, List, [], ◌∷◌, Some, codes}
 use Rattle.gas_model.specs.Rows.{Network}
 use Rattle.flat_text.specs.Spelling.{flat_text}
 use Rattle.command_core.specs.declared.status.Status.{Status}
-use Rattle.command_core.specs.declared.status.Status.TheVariants as ends
 use Rattle.command_core.specs.Gates.{Files, stands}
 use Rattle.command_core.specs.Meanings.{Meaning, Texts}
 use Rattle.nomval.specs.Sources.{Origin, problem_is, problem_gates}
+use Rattle.nomval.specs.Written.{written_meaning, written_says}
 
 -- the one OUT is to hold the one text of the problem, and the line says that it was written
 pub record WritesFlat (p : Network) (note : List ℕ) (texts : Texts) : Type 0 where
@@ -14,27 +14,12 @@ pub record WritesFlat (p : Network) (note : List ℕ) (texts : Texts) : Type 0 w
   pub one : texts ≡ Some (flat_text p) ∷ []
 
 abbrev pub flatten_says : Network → Status → List ℕ → Texts → Type 0
-flatten_says p ends.Written note texts = WritesFlat p note texts
-flatten_says p status note texts = ⊥
+flatten_says p = written_says (WritesFlat p)
 
 pub record Flattens (origin : Origin) (files : Files) (status : Status) (note : List ℕ) (texts : Texts) : Type 0 where
   pub problem : Network
   pub stands_for : problem_is origin files ≡ stands problem
   pub says : flatten_says problem status note texts
 
--- of each problem its text is written
-abbrev pub FlattenIsDue : Status → Type 0
-FlattenIsDue status = status ≡ ends.Written
-
-abbrev pub flatten_may : Status → Type 0
-flatten_may ends.Written = Unit {0}
-flatten_may status = ⊥
-
 abbrev pub flatten_meaning : Origin → List ℕ → Meaning
-flatten_meaning origin out = record {
-  gates = problem_gates origin;
-  outs = out ∷ [];
-  may = flatten_may;
-  answers = Flattens origin;
-  due = λ files. FlattenIsDue;
-}
+flatten_meaning origin out = written_meaning (problem_gates origin) out (Flattens origin)

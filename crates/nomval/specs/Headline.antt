@@ -11,12 +11,16 @@ use Rattle.command_core.specs.declared.status.UndecidedBy.{UndecidedBy}
 use Rattle.command_core.specs.Gates.{stands, file_is, any_bytes}
 use Rattle.command_core.specs.Lines.{law_word, not_text, open_word}
 use Rattle.command_core.specs.Meanings.{Says}
+use Rattle.nomval.specs.declared.answer.Answer.{Answer}
+use Rattle.nomval.specs.Budgets.{default_budget}
 use Rattle.nomval.specs.Check.{IsNoRefutation, PassesIt}
+use Rattle.nomval.specs.Make.{IsMadeOf, made_line}
 use Rattle.nomval.specs.Named.{id_of}
-use Rattle.nomval.specs.Plain.{Words, solve, replay, check, flatten, plain}
+use Rattle.nomval.specs.Plain.{Words, solve, replay, check, flatten, make, plain}
 use Rattle.nomval.specs.Replay.{BreaksFirst, setting_is}
-use Rattle.nomval.specs.Solve.{Carries, HaltsWith}
+use Rattle.nomval.specs.Solve.{Carries, HaltsWith, IsFound}
 use Rattle.nomval.specs.Sources.{Origin, problem_is}
+use Rattle.nomval.specs.Tolerances.{default_tolerance}
 
 -- the words ask to solve a problem, OUT holds, finished, a text of this kind for it, and this line was said
 pub record Writes (IsText : (tol boxes : ℕ) → Network → List ℕ → Type 0) (line : List ℕ) (words : Words) (before now : Outside) : Type 0 where
@@ -56,6 +60,21 @@ pub record HasWritten (words : Words) (before now : Outside) : Type 0 where
   pub holds : now.files out ≡ Some (flat_text problem)
   pub finished : now.finished out ≡ true
   pub said : Says (codes "written") before now
+
+-- the words ask to make the problem of a number, OUT holds its flat text, finished, and the line has how many nodes and
+-- arcs it has and the word of something that is found for it: a setting that carries it, a refutation of it, or the text
+-- with which its search halted
+pub record HasMade (words : Words) (before now : Outside) : Type 0 where
+  pub count : ℕ
+  pub out : List ℕ
+  pub problem : Network
+  pub answer : Answer
+  pub is_plain : plain words ≡ Ok (make count out)
+  pub is_made : IsMadeOf count problem
+  pub found : IsFound default_tolerance default_budget problem answer
+  pub holds : now.files out ≡ Some (flat_text problem)
+  pub finished : now.finished out ≡ true
+  pub said : Says (made_line count problem answer) before now
 
 -- the words ask to replay a setting of a problem, of which this holds within the tolerance, and this line was said
 pub record Replayed (Holds : ℕ → Network → Setting → Type 0) (line : Network → List ℕ) (words : Words) (before now : Outside) : Type 0 where

@@ -11,6 +11,7 @@ use Rattle.nomval.specs.declared.words.Given.{Given}
 use Rattle.nomval.specs.declared.words.Offer.{Offer}
 use Rattle.nomval.specs.declared.words.Offer.TheVariants.{TolAlone, TolAndBoxes}
 use Rattle.nomval.specs.Budgets.{budget_of, default_budget}
+use Rattle.nomval.specs.Counts.{count_of}
 use Rattle.nomval.specs.Sources.{Origin, flat, joined, origin_of}
 use Rattle.nomval.specs.Tolerances.{default_tolerance, most_tolerance}
 
@@ -32,12 +33,15 @@ pub data Plain : Type 0 where
   check : Origin → (tree : List ℕ) → Plain
   -- `flat NET SCN CDF RES OUT`
   flatten : Origin → (out : List ℕ) → Plain
+  -- `make N OUT`
+  make : (count : ℕ) (out : List ℕ) → Plain
 
 abbrev pub plain_of : Request → Plain
 plain_of (request.Solve asked) = solve (origin_of asked.source) asked.out.now asked.tol.value asked.boxes.value
 plain_of (request.Replay asked) = replay (origin_of asked.source) asked.setting.now asked.tol.value
 plain_of (request.Check asked) = check (origin_of asked.source) asked.tree.now
 plain_of (request.Flatten asked) = flatten (origin_of asked.source) asked.out.now
+plain_of (request.Make asked) = make asked.count.value asked.out.now
 
 -- what comes after the first words, or the place where those leave the form
 infixl 10 ◌>>=◌
@@ -54,6 +58,15 @@ is_file_word (first ∷ rest) = not (first == 45)
 abbrev pub file_at : ℕ → Words → Result (List ℕ × Words) ℕ
 file_at n [] = Err n
 file_at n (word ∷ words) = if is_file_word word then Ok (word, words) else Err n
+
+-- how many nodes a problem is to have, which is word n
+abbrev pub count_in : ℕ → Option ℕ → Result ℕ ℕ
+count_in n number = ok_or (option_and_then count_of number) n
+
+-- word n, which is such a number, and the words after it
+abbrev pub count_at : ℕ → Words → Result (ℕ × Words) ℕ
+count_at n [] = Err n
+count_at n (word ∷ words) = count_in n (natural word) >>= λ count. Ok (count, words)
 
 -- no word comes after those before word n
 abbrev pub no_more : ℕ → Words → Result (Unit {0}) ℕ
@@ -160,6 +173,14 @@ flatten_words n origin words = do
   end ← no_more (n + 1) out.1
   Ok (flatten origin out.0)
 
+-- N and OUT
+abbrev pub make_words : Words → Result Plain ℕ
+make_words words = do
+  count ← count_at 1 words
+  out ← file_at 2 count.1
+  end ← no_more 3 out.1
+  Ok (make count.0 out.0)
+
 -- the words of a command after its name, where the problem is a flat file
 abbrev pub flat_then : (ℕ → Origin → Words → Result Plain ℕ) → Words → Result Plain ℕ
 flat_then next words = do
@@ -183,6 +204,7 @@ plain (command ∷ words) =
     else if bytes_eq command (codes "replay") then joined_then replay_words words
     else if bytes_eq command (codes "check") then joined_then check_words words
     else if bytes_eq command (codes "flat") then joined_then flatten_words words
+    else if bytes_eq command (codes "make") then make_words words
     else Err 0
 
 -- plain words begin with these

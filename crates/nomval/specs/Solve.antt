@@ -11,6 +11,7 @@ use Rattle.setting_text.specs.Writing.{setting_text}
 use Rattle.nom_search.specs.declared.searching.Why.{Why}
 use Rattle.nom_search.specs.declared.searching.Why.TheVariants as why
 use Rattle.nom_search.specs.Halted.{Halted}
+use Rattle.search_reach.specs.Reached.{Reached}
 use Rattle.command_core.specs.declared.status.Status.{Status}
 use Rattle.command_core.specs.declared.status.Status.TheVariants as ends
 use Rattle.command_core.specs.declared.status.UndecidedBy.{UndecidedBy}
@@ -36,10 +37,12 @@ why_of by.Budget = why.Budget
 why_of by.Grid = why.Grid
 
 -- the search from the box of all bounds, with this tolerance and this many boxes to split, halted with this text, and
--- names the open box that ends at this line; the text is that of a tree that passes but for open boxes
+-- names the open box that ends at this line, which lies as far down as such a search reaches; the text is that of a tree
+-- that passes but for open boxes
 pub record HaltsWith (why : UndecidedBy) (tol boxes : ℕ) (p : Network) (text : List ℕ) (line : ℕ) : Type 0 where
   pub rows : List Row
   pub halted : Halted p (pos tol) (root_box pool_scale p) boxes (why_of why) rows text line
+  pub reached : Reached p (pos tol) boxes (why_of why) rows text line halted
   pub first_open : ℕ
   pub passes : PassesPartText (rules_of p) text first_open
 

@@ -1,16 +1,19 @@
 // The command that the words of the command line ask for.
 ghost use Rattle.std.specs.Prelude.{◌≡◌, ◌<◌, ◌^◌, ℕ};
 ghost use Rattle.std.specs.Result.{result_map_both};
-ghost use Rattle.nomval.specs.Plain.{check_words, flatten_words, plain, plain_of, replay_words, solve_words, texts};
+ghost use Rattle.nomval.specs.Plain.{check_words, flatten_words, make_words, plain, plain_of, replay_words, solve_words, texts};
 ghost use Rattle.nomval.specs.Sources.{origin_of};
 ghost use Rattle.nomval.specs.declared.asking.Request.TheVariants as request;
 
 use crate::check::Check;
 use crate::flatten::Flatten;
+use crate::make::Make;
 use crate::replay::Replay;
 use crate::solve::Solve;
 use crate::source::Source;
-use crate::words::{Given, Offer, file_at, flat_source, joined_source, no_more, options_at};
+use crate::words::{
+    Given, Offer, count_at, file_at, flat_source, joined_source, no_more, options_at,
+};
 
 /// A command, with its words.
 #[derive(Clone, Copy, Debug)]
@@ -19,6 +22,7 @@ pub enum Request<'a> {
     Replay(Replay<'a>),
     Check(Check<'a>),
     Flatten(Flatten<'a>),
+    Make(Make<'a>),
 }
 
 // Before any option.
@@ -76,6 +80,16 @@ fn flatten_words<'a>(at: u64, source: Source<'a>, words: &[&'a str]) -> Result<F
     Ok(Flatten { source, out })
 }
 
+// N and OUT.
+fn make_words<'a>(words: &[&'a str]) -> Result<Make<'a>, u64>
+    ensures { result_map_both (λ s. plain_of (request.Make s)) (λ e. e) result ≡ make_words (texts words.entry.now) }
+{
+    let (count, rest) = count_at(1, words)?;
+    let (out, rest) = file_at(2, rest)?;
+    no_more(3, rest)?;
+    Ok(Make { count, out })
+}
+
 /// The command that the words are, or the place where the words leave the plain form.
 pub fn read_words<'a>(words: &[&'a str]) -> Result<Request<'a>, u64>
     ensures { result_map_both plain_of (λ at. at) result ≡ plain (texts words.entry.now) }
@@ -112,6 +126,7 @@ pub fn read_words<'a>(words: &[&'a str]) -> Result<Request<'a>, u64>
             let (source, rest) = joined_source(rest)?;
             Ok(Request::Flatten(flatten_words(5, source, rest)?))
         }
+        "make" => Ok(Request::Make(make_words(rest)?)),
         _ => Err(0),
     }
 }

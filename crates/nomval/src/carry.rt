@@ -18,6 +18,7 @@ fn execute<D: Desk>(alloc: Global, desk: &mut D, request: &Request<'_>) -> Statu
         Request::Replay(replay) => conclude(alloc, desk, replay),
         Request::Check(check) => conclude(alloc, desk, check),
         Request::Flatten(flatten) => conclude(alloc, desk, flatten),
+        Request::Make(make) => conclude(alloc, desk, make),
     }
 }
 

@@ -12,7 +12,7 @@ ghost use Rattle.command_core.specs.declared.status.NotFault.{NotFault};
 ghost use Rattle.command_core.specs.declared.status.Status.{Status};
 ghost use Rattle.command_core.specs.declared.status.UndecidedBy.{UndecidedBy};
 ghost use Rattle.nomval.specs.Commands.{ForCommand, OnCommand, meaning};
-ghost use Rattle.nomval.specs.Headline.{HasCarried, HasNotPassed, HasPassed, HasRefuted, HasWritten, IsBroken, IsKept, LeavesOpen};
+ghost use Rattle.nomval.specs.Headline.{HasCarried, HasMade, HasNotPassed, HasPassed, HasRefuted, HasWritten, IsBroken, IsKept, LeavesOpen};
 ghost use Rattle.nomval.specs.Plain.{IsPlace, Plain, plain, texts};
 
 use crate::carry::carry_out;
@@ -28,10 +28,12 @@ use std::alloc::Global;
 /// `check-flat PROBLEM TREE` tells whether a tree refutes it. `solve`, `replay` and `check` are the same over the four
 /// words NET SCN CDF RES in the place of PROBLEM: a network file, a scenario file, a decision file, or `none` where there
 /// is none, and a table of resistances, which are joined. `flat NET SCN CDF RES OUT` writes the flat text of what they
-/// make. The tolerance is in Pa^2, from 0 to 10^16, and 10^8 where none is given; the boxes that may be split are 1 to
-/// 16,384, and 256 where none are given. The options come in either order. The order is: the words; each file of
-/// the problem: whether it can be read, its length, what it stands for; what the four make together; SETTING or TREE, if
-/// there is one, likewise, but that a tree may be any bytes; the work; OUT; the line.
+/// make. `make N OUT` writes the flat text of the made problem of N nodes, from 1 to 2,000, and tells what is found for
+/// it with the usual tolerance and number of boxes. The tolerance is in Pa^2, from 0 to 10^16, and 10^8 where none is
+/// given; the boxes that may be split are 1 to 16,384, and 256 where none are given. The options come in either order.
+/// The order is: the words; each file of the problem: whether it can be read, its length, what it stands for; what the
+/// four make together; SETTING or TREE, if there is one, likewise, but that a tree may be any bytes; the work; OUT; the
+/// line.
 pub fn run<D: Desk>(alloc: Global, words: &[&str], desk: &mut D) -> Status
     // The answers, with what OUT then holds and the line said.
     ensures accepted { D.tells → result ≡ Status.Accepted → HasCarried (texts words.now) (D.outside desk.old) (D.outside desk.new) }
@@ -41,7 +43,7 @@ pub fn run<D: Desk>(alloc: Global, words: &[&str], desk: &mut D) -> Status
     ensures broken { D.tells → (law : Broken) → result ≡ Status.Broken law → IsBroken law (texts words.now) (D.outside desk.old) (D.outside desk.new) }
     ensures passes { D.tells → result ≡ Status.Passes → HasPassed (texts words.now) (D.outside desk.old) (D.outside desk.new) }
     ensures not_refutation { D.tells → (fault : NotFault) → result ≡ Status.NotRefutation fault → HasNotPassed fault (texts words.now) (D.outside desk.old) (D.outside desk.new) }
-    ensures written { D.tells → result ≡ Status.Written → HasWritten (texts words.now) (D.outside desk.old) (D.outside desk.new) }
+    ensures written { D.tells → result ≡ Status.Written → HasWritten (texts words.now) (D.outside desk.old) (D.outside desk.new) ⊎ HasMade (texts words.now) (D.outside desk.old) (D.outside desk.new) }
     ensures answers { D.tells → IsAnswer result → ForCommand (texts words.now) (λ c. Answered (meaning c) (D.outside desk.old) (D.outside desk.new) result) }
     ensures own { IsAnswer result → ForCommand (texts words.now) (λ c. (meaning c).may result) }
 

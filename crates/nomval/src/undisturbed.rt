@@ -12,7 +12,7 @@ ghost use Rattle.command_core.specs.declared.status.NotFault.{NotFault};
 ghost use Rattle.command_core.specs.declared.status.Status.{Status};
 ghost use Rattle.command_core.specs.declared.status.UndecidedBy.{UndecidedBy};
 ghost use Rattle.nomval.specs.Commands.{ForCommand, OnCommand, meaning};
-ghost use Rattle.nomval.specs.Headline.{HasCarried, HasNotPassed, HasPassed, HasRefuted, HasWritten, IsBroken, IsKept, LeavesOpen};
+ghost use Rattle.nomval.specs.Headline.{HasCarried, HasMade, HasNotPassed, HasPassed, HasRefuted, HasWritten, IsBroken, IsKept, LeavesOpen};
 ghost use Rattle.nomval.specs.Plain.{IsPlace, Plain, plain, texts};
 
 use crate::{Status, run};
@@ -36,7 +36,7 @@ pub fn run_undisturbed(alloc: Global, words: &[&str], desk: &mut NeverFails) -> 
     ensures broken { (law : Broken) → result ≡ Status.Broken law → IsBroken law (texts words.now) (never_failing desk.old) (never_failing desk.new) }
     ensures passes { result ≡ Status.Passes → HasPassed (texts words.now) (never_failing desk.old) (never_failing desk.new) }
     ensures not_refutation { (fault : NotFault) → result ≡ Status.NotRefutation fault → HasNotPassed fault (texts words.now) (never_failing desk.old) (never_failing desk.new) }
-    ensures written { result ≡ Status.Written → HasWritten (texts words.now) (never_failing desk.old) (never_failing desk.new) }
+    ensures written { result ≡ Status.Written → HasWritten (texts words.now) (never_failing desk.old) (never_failing desk.new) ⊎ HasMade (texts words.now) (never_failing desk.old) (never_failing desk.new) }
     ensures usage { (at : ℕ) → result ≡ Status.Usage at → (plain (texts words.now) ≡ Err at) × IsPlace at (texts words.now) }
     ensures bad_input { (file : InputFile) (fault : InputFault) → result ≡ Status.BadInput file fault
         → ForCommand (texts words.now) (λ c. found (meaning c).gates (never_failing desk.old).files ≡ bad file fault) }

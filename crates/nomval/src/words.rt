@@ -2,10 +2,11 @@
 ghost use Rattle.std.specs.Prelude.{◌≡◌, ◌+◌, ◌<◌, ◌^◌, ℕ, length, option_map};
 ghost use Rattle.std.specs.Result.{result_map_both};
 ghost use Rattle.line_text.specs.Numerals.{natural};
-ghost use Rattle.nomval.specs.Plain.{boxes_of, budget_in, file_at, flat_source, give, groups_file, has_boxes, is_file_word, joined_source, no_more, option_in, options_at, options_of, texts, tolerance_in, tolerance_of};
+ghost use Rattle.nomval.specs.Plain.{boxes_of, budget_in, count_at, count_in, file_at, flat_source, give, groups_file, has_boxes, is_file_word, joined_source, no_more, option_in, options_at, options_of, texts, tolerance_in, tolerance_of};
 ghost use Rattle.nomval.specs.Sources.{origin_of};
 
 use crate::budget::Budget;
+use crate::count::Count;
 use crate::four::Four;
 use crate::source::Source;
 use crate::tolerance::Tolerance;
@@ -87,6 +88,30 @@ pub fn file_at<'a, 'b>(at: u64, words: &'b [&'a str]) -> Result<(&'a str, &'b [&
         [word, rest @ ..] if is_file(word) => Ok((word, rest)),
         _ => Err(at),
     }
+}
+
+// The number of nodes that the word at this place is.
+fn count_in(at: u64, word: &str) -> Result<Count, u64>
+    ensures { result_map_both (λ count. count.value) (λ e. e) result ≡ count_in at (natural word.now) }
+{
+    match size_at(word) {
+        Some(value) => match Count::of(value) {
+            Some(count) => Ok(count),
+            None => Err(at),
+        },
+        None => Err(at),
+    }
+}
+
+/// The word at this place, which is a number of nodes, and the words after it.
+pub fn count_at<'a, 'b>(at: u64, words: &'b [&'a str]) -> Result<(Count, &'b [&'a str]), u64>
+    ensures { result_map_both (λ x. (x.0.value, texts x.1.now)) (λ e. e) result ≡ count_at at (texts words.entry.now) }
+{
+    let Some((word, rest)) = words.split_first() else {
+        return Err(at);
+    };
+    let count = count_in(at, word)?;
+    Ok((count, rest))
 }
 
 /// The end of the words, before the word at this place.

@@ -6,8 +6,8 @@ use nomval::run;
 use std::alloc::Global;
 use std::process::ExitCode;
 
-// The words of each run. The words after the command name files, up to an option.
-const RUNS: [&[&str]; 26] = [
+// The words of each run. The words after the command name files, up to an option, but for the number of `make`.
+const RUNS: [&[&str]; 27] = [
     &["solve-flat", "one_node.flat", "out.json"],
     &["solve-flat", "two_nodes.flat", "out.json"],
     &["solve-flat", "no_pressure.flat", "out.tree"],
@@ -97,6 +97,7 @@ const RUNS: [&[&str]; 26] = [
         "resistances.csv",
         "out.json",
     ],
+    &["make", "3", "made.flat"],
 ];
 
 // The most bytes of an example.
@@ -112,11 +113,20 @@ fn show<D: Desk>(alloc: Global, desk: &mut D, name: &str) -> bool {
     named && shown
 }
 
+// The words that come after the command and its number, if it takes one.
+fn after_command<'a, 'b>(words: &'b [&'a str]) -> &'b [&'a str] {
+    match words {
+        ["make", _, rest @ ..] => rest,
+        [_, rest @ ..] => rest,
+        [] => words,
+    }
+}
+
 // Runs the program with these words, and prints the files that they name.
 fn show_run<D: Desk>(alloc: Global, desk: &mut D, words: &[&str]) -> bool {
     let status = run(alloc, words, desk);
     let mut shown = status.exit() < 64;
-    for name in words.iter().skip(1) {
+    for name in after_command(words) {
         if name.starts_with("--") {
             break;
         }

@@ -10,6 +10,8 @@ mod faults;
 #[cfg(test)]
 mod joining;
 #[cfg(test)]
+mod making;
+#[cfg(test)]
 mod replaying;
 #[cfg(test)]
 mod solving;
