@@ -1,0 +1,1 @@
+"""The tools' own tests. `tools/test` runs them."""
