@@ -14,8 +14,8 @@ from tests.helper import PROGRAM, TOP, TOWN, FolderTest, needs_program
 STAND_IN = '''#!/bin/sh
 name=$(basename "$PWD")
 echo "begin $name $*" >>"$NOTES"
-[ "$name" = "$HANGS" ] && sleep 30
-sleep 0.2
+[ "$name" = "$HANGS" ] && exec /bin/sleep 30
+/bin/sleep 0.2
 echo "end $name" >>"$NOTES"
 [ "$name" != "$FAILS" ] || exit 1
 if [ "$1" = run ]; then
@@ -43,6 +43,9 @@ class ScriptTest(FolderTest):
         tools.mkdir()
         (tools / 'rt').write_text(STAND_IN)
         (tools / 'rt').chmod(0o755)
+        # The script looks each second; here it looks more often.
+        (tools / 'sleep').write_text('#!/bin/sh\nexec /bin/sleep 0.1\n')
+        (tools / 'sleep').chmod(0o755)
         self.notes = self.folder / 'notes'
         self.notes.write_text('')
 
