@@ -35,8 +35,8 @@ def ask(program: str, *words: object, limit: float | None = None) -> Answer:
     """Runs the program once."""
     begun = time.monotonic()
     try:
-        ran = subprocess.run([program, *map(str, words)], stdin=subprocess.DEVNULL, stdout=subprocess.PIPE, stderr=subprocess.DEVNULL,
-                             timeout=limit)
+        ran = subprocess.run([program, *map(str, words)], stdin=subprocess.DEVNULL, stdout=subprocess.PIPE,
+                             stderr=subprocess.DEVNULL, timeout=limit)
     except subprocess.TimeoutExpired:
         return Answer('no answer in time', -1, time.monotonic() - begun)
     except OSError as fault:

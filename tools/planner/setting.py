@@ -23,8 +23,8 @@ def read_setting(path: Path, problem: Problem) -> Setting:
         value = json.loads(read_bytes(path))
         arcs, decisions, nodes = value['arcs'], value['decisions'], value['nodes']
         ids = [entry[0] for entry in arcs], [entry[0] for entry in nodes]
-        setting = Setting([str(entry[1]) for entry in arcs], [int(entry[2]) for entry in arcs], [int(entry[1]) for entry in nodes],
-                          [str(entry[1]) for entry in decisions])
+        states, flows = [str(entry[1]) for entry in arcs], [int(entry[2]) for entry in arcs]
+        setting = Setting(states, flows, [int(entry[1]) for entry in nodes], [str(entry[1]) for entry in decisions])
     except (ValueError, KeyError, TypeError, IndexError):
         raise InputFault(f'{path}: no setting; wanted is one object with the lists arcs, decisions and nodes') from None
     for what, found, rows in (('arcs', ids[0], problem.arcs), ('nodes', ids[1], problem.nodes)):
