@@ -115,6 +115,8 @@ hint_file() {
     case $* in
     *\ at\ [0-9]*) hint_outline "$file" "$@" ;;
     wrong\ root) hint "$file: its first element isn't that of a $(sort_of "$sort"); look whether the words stand in the order NET SCN CDF RES" ;;
+    missing\ *\ nodes | missing\ *\ scenario) hint "$file: no element $3 in $2; look whether the words stand in the order NET SCN CDF RES" ;;
+    missing\ *\ id | missing\ *\ from | missing\ *\ to | missing\ *\ type | missing\ *\ bound | missing\ *\ mode) hint "$file: $2 has no attribute $3" ;;
     missing\ *) hint "$file: $2 has no $3; where a $3 is there, its attribute value or unit is what is missing" ;;
     bad\ unit\ *) hint "$file: the unit of $4 of $3 isn't read; the units that are read there are $(units_for "$4")" ;;
     bad\ value\ *) hint "$file: $4 of $3 is no decimal, or no id; write digits with at most one point, and no \"&\" in an id" ;;

@@ -186,10 +186,13 @@ class HintTest(ScriptTest):
     def test_files(self) -> None:
         self.change('mild_day.scn', '1000m_cube_per_hour', 'kg_per_s')
         self.assertIn('1000m_cube_per_hour and m_cube_per_hour', self.told(65, 'bad scn bad unit north_gate flow\n', *self.town()))
-        self.change('town.net', 'unit="bar" value="40"', 'value="40"')
+        self.change('town.net', 'unit="bar" value="40"', 'unit="bar" worth="40"')
         self.assertIn('value or unit', self.told(65, 'bad net missing north_gate pressureMin\n', *self.town()))
-        self.assertIn('NET SCN CDF RES', self.told(65, 'bad scn wrong root\n', *self.town('town.cdf')[:1], 'cold_day.scn', 'town.net',
-                                                   'town.cdf', 'town.csv', 'out'))
+        self.change('town.net', 'worth="40"', 'value="40"')
+        mixed = ['flat', 'cold_day.scn', 'town.net', 'town.cdf', 'town.csv', 'out']
+        self.assertIn('NET SCN CDF RES', self.told(65, 'bad net missing boundaryValue nodes\n', *mixed))
+        mixed = ['flat', 'town.net', 'town.cdf', 'town.cdf', 'town.csv', 'out']
+        self.assertIn('NET SCN CDF RES', self.told(65, 'bad scn wrong root\n', *mixed))
 
     def test_tables(self) -> None:
         self.change('town.csv', 'station,station_north,8,5', 'station,station_north,8.5,5')
