@@ -91,14 +91,14 @@ class ComparedTest(FolderTest):
     def test_spoilt_trees(self) -> None:
         rng = random.Random(30)
         whole = [case for case in self.known() if case['line'] == 'passes']
-        for _ in range(300):
+        for _ in range(120):
             case = rng.choice(whole)
             self.compare(case['problem'], spoil(case['tree'], rng))
 
     def test_spoilt_problems(self) -> None:
         rng = random.Random(31)
         known = self.known()
-        for _ in range(200):
+        for _ in range(80):
             case = rng.choice(known)
             problem = spoil_problem(case['problem'], rng)
             if self.reads_inclined or not problem.startswith('gasflat 2\n'):
