@@ -48,8 +48,8 @@ Says whether a setting carries the nomination within the tolerance (`kept`), or 
 Settings are what `solve` writes, or your own in that form.
 TEXT
     check | check-flat) cat <<'TEXT' ;;
-Says whether a text is a tree that refutes the nomination (`passes`), or where it fails (`not refutation`). Who hears
-`passes` knows that nothing carries the nomination, whoever made the tree.
+Says whether a text is a tree that refutes the nomination (`passes`), or its first line at fault (`not refutation`).
+Who hears `passes` knows that nothing carries the nomination, whoever made the tree.
 TEXT
     flat) cat <<'TEXT' ;;
 Joins the four files to one text, a flat problem, for the commands with `-flat`.

@@ -74,7 +74,7 @@ class TableTest(FolderTest):
     def test_sources_give_the_gas(self) -> None:
         ran = run_tool('resistances', TOWN / 'town.net', '--mean-pressure', '40:70', '--spread', '1', '--station', '1.6', '30')
         self.assertEqual(ran.stdout, (TOWN / 'town.csv').read_text())
-        self.assertEqual(ran.stderr, 'resistances: wrote 17 pipes, 1 resistors, 3 stations\n')
+        self.assertEqual(ran.stderr, 'resistances: wrote 17 pipes, 1 resistor, 3 stations\n')
 
     def test_single_stations(self) -> None:
         lines = self.write('stations', '# id ratio rise\nc 4/3 12.5  # bar\n')
