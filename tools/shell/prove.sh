@@ -6,7 +6,9 @@
 # of these lanes works in a copy of the sources, and takes the libraries that the other lanes built.
 # NOMVAL_PROVE=all leaves it to one run of the prover. NOMVAL_JOBS=N is how many cores are used.
 
-CRATE_MEMORY_KB=5500000
+# The largest crate's check takes up to 5.5 GB, that of most others below 3.
+LARGEST_KB=5500000
+OTHER_KB=3000000
 home=$top/crates/nomval_cli
 log=$home/out/build.log
 
@@ -20,8 +22,8 @@ cores() {
 }
 
 lanes() {
-    awk -v cores="$(cores)" -v each="$CRATE_MEMORY_KB" '
-        /^MemAvailable:/ { room = int($2 / each) }
+    awk -v cores="$(cores)" -v largest="$LARGEST_KB" -v other="$OTHER_KB" '
+        /^MemAvailable:/ { room = $2 < largest ? 1 : 1 + int(($2 - largest) / other) }
         END { most = (NR && room < cores) ? room : cores; print (most >= 1) ? most : 1 }' /proc/meminfo 2>/dev/null || cores
 }
 
