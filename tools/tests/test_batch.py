@@ -4,7 +4,7 @@ from __future__ import annotations
 import csv
 import unittest
 
-from tests.helper import TOWN, FolderTest, needs_program, run_tool
+from tests.support import TOWN, FolderTest, needs_program, run_tool
 
 
 @needs_program

@@ -8,7 +8,7 @@ import subprocess
 import sys
 import unittest
 
-from tests.helper import PROGRAM, TOP, needs_program
+from tests.support import PROGRAM, TOP, needs_program
 from planner.flat import read_flat
 
 

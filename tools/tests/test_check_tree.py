@@ -5,7 +5,7 @@ import json
 import random
 import unittest
 
-from tests.helper import DATA, EXAMPLES, FolderTest, load, needs_program, run_program, run_tool
+from tests.support import DATA, EXAMPLES, FolderTest, load, needs_program, run_program, run_tool
 from tests.spoil import spoil, spoil_problem
 
 check_tree = load('check_tree')

@@ -7,7 +7,7 @@ import shutil
 import subprocess
 import unittest
 
-from tests.helper import PROGRAM, TOOLS, TOP, FolderTest, needs_program
+from tests.support import PROGRAM, TOOLS, TOP, FolderTest, needs_program
 
 WALKTHROUGH = TOP / 'docs' / 'walkthrough.md'
 

@@ -5,7 +5,7 @@ import shutil
 import subprocess
 import unittest
 
-from tests.helper import EXAMPLES, TOWN, FolderTest, load, run_tool
+from tests.support import EXAMPLES, TOWN, FolderTest, load, run_tool
 
 draw = load('draw')
 SMALL = EXAMPLES / 'small_network.flat'

@@ -6,7 +6,7 @@ import shutil
 import subprocess
 import unittest
 
-from tests.helper import TOP, FolderTest
+from tests.support import TOP, FolderTest
 
 
 class GateTest(FolderTest):

@@ -8,7 +8,7 @@ import unittest
 from decimal import Context
 from fractions import Fraction
 
-from tests.helper import TOWN, FolderTest, load, run_tool
+from tests.support import TOWN, FolderTest, load, run_tool
 
 resistances = load('resistances')
 GAS = ['--norm-density', '0.785', '--temperature', '283.15', '--critical-pressure', '45.92', '--critical-temperature', '188.55']

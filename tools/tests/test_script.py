@@ -8,7 +8,7 @@ import subprocess
 import time
 import unittest
 
-from tests.helper import PROGRAM, TOP, TOWN, FolderTest, needs_program
+from tests.support import PROGRAM, TOP, TOWN, FolderTest, needs_program
 
 # Notes when each crate began and ended, and how many worked at once; the program it builds says its words.
 STAND_IN = '''#!/bin/sh

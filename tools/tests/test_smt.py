@@ -7,7 +7,7 @@ import subprocess
 import unittest
 from pathlib import Path
 
-from tests.helper import DATA, EXAMPLES, FolderTest, run_tool
+from tests.support import DATA, EXAMPLES, FolderTest, run_tool
 
 SOLVER = next((words for name, words in [('z3', ['z3', '-T:10']), ('cvc5', ['cvc5', '--tlimit=10000'])] if shutil.which(name)), None)
 
