@@ -1,10 +1,11 @@
 # Proves what the program needs, and no more, and builds it. A line on the standard error tells of each crate that is
 # through, and one each minute of those that are still being proved.
 #
-# NOMVAL_PROVE=each (where none is given) proves crate by crate, those first that the longest chain of others waits for, as
-# many side by side as there are cores and memory for. The prover locks each crate below the one that it works on, so each
-# of these lanes works in a copy of the sources, and takes the libraries that the other lanes built.
-# NOMVAL_PROVE=all leaves it to one run of the prover. NOMVAL_JOBS=N is how many cores are used.
+# NOMVAL_PROVE=all (where none is given) leaves it to one run of the prover, which first reads all crates for some minutes.
+# NOMVAL_PROVE=each proves crate by crate, those first that the longest chain of others waits for, as many side by side as
+# there are cores and memory for. The prover locks each crate below the one that it works on, so each of these lanes works
+# in a copy of the sources, and takes the libraries that the other lanes built. It was tried on small repositories alone.
+# NOMVAL_JOBS=N is how many cores are used.
 
 # The largest crate's check takes up to 5.5 GB, that of most others below 3.
 LARGEST_KB=5500000
@@ -230,9 +231,9 @@ prove_and_build() {
     count=$(needed_crates | wc -l)
     say "proving $count crates, which takes some minutes; all that the prover says is kept in $log"
     begun_all=$(date +%s)
-    case ${NOMVAL_PROVE:-each} in
-    all) prove_by_all "$count" ;;
-    *) prove_by_each "$count" ;;
+    case ${NOMVAL_PROVE:-all} in
+    each) prove_by_each "$count" ;;
+    *) prove_by_all "$count" ;;
     esac || return 1
     # The command also runs the program, without words, and so ends with the status of a wrong use.
     [ -x "$program" ] || (cd "$home" && rt run) >>"$log" 2>&1

@@ -51,7 +51,7 @@ class ScriptTest(FolderTest):
 
     def env(self, **more: str) -> dict[str, str]:
         return {**os.environ, 'PATH': f'{self.folder}/bin:{os.environ["PATH"]}', 'NOTES': str(self.notes), 'HANGS': '', 'FAILS': '',
-                'NOMVAL_JOBS': '2', **more}
+                'NOMVAL_JOBS': '2', 'NOMVAL_PROVE': 'each', **more}
 
     def run_script(self, *words: object, **env: str) -> subprocess.CompletedProcess:
         return subprocess.run([str(self.top / 'nomval'), *map(str, words)], env=self.env(**env), text=True, cwd=self.folder,
