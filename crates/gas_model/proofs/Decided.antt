@@ -12,8 +12,9 @@ use Rattle.gas_model.specs.declared.rows.SetText.{SetText}
 use Rattle.gas_model.specs.declared.rows.DecisionText.{DecisionText}
 use Rattle.gas_model.specs.declared.rows.GroupText.{GroupText}
 use Rattle.gas_model.specs.declared.rows.ModelFault.TheVariants as fault
-use Rattle.gas_model.specs.Rows.{text_ids, place, arc_takes, is_among, set_key, set_fault, decision_key, decision_fault, group_fault_after, first_offence, SameNames}
-use Rattle.gas_model.specs.Limits.{is_id}
+use Rattle.gas_model.specs.Rows.{text_ids, arc_takes, set_key, set_fault, decision_key, decision_fault, group_fault_after, first_offence}
+use Rattle.base_types.specs.Names.{place, is_among, SameNames}
+use Rattle.base_types.specs.Ids.{is_id}
 
 -- one more item of a list that was read there
 pub take_item : {X : Type 0} (xs : List X) (i : ℕ) (x : X) → i < length xs → x ≡ get_or xs i x → take (i + 1) xs ≡ take i xs ++ x ∷ []

@@ -6,11 +6,13 @@ use Rattle.std.proofs.lemmas.Bool.{and_parts, and_from}
 use Rattle.std.proofs.lemmas.Bool.Decides.{Decides-int_eq}
 use Rattle.integer_laws.proofs.Ring.{linear, one_mul, mul_one, square_nonneg}
 use Rattle.gas_model.specs.declared.rows.ArcRow.{ArcRow}
-use Rattle.gas_model.specs.declared.rows.Drag.{Drag}
+use Rattle.gas_model.specs.declared.law_forms.PipeLaw.{PipeLaw}
 use Rattle.gas_model.specs.declared.rows.NodeRow.{NodeRow}
 use Rattle.gas_model.specs.declared.rows.Setting.{Setting}
 use Rattle.gas_model.specs.Curves.{square, drop_low, drop_high, at_most, at_least, at_least_zero, falls_between, nears_fall, is_close, meets_loss, nears_loss, meets_resistance, nears_resistance}
-use Rattle.gas_model.specs.Laws.{LawForm, drags, equals, shuts, loses, reduces, raises, never, form_of, meets_form, nears_form}
+use Rattle.gas_model.specs.declared.law_forms.LawForm.{LawForm}
+use Rattle.gas_model.specs.declared.law_forms.LawForm.TheVariants.{Drags, Equals, Shuts, Loses, Reduces, Raises, Never}
+use Rattle.gas_model.specs.Laws.{form_of, meets_form, nears_form}
 use Rattle.gas_model.specs.Points.{keeps_square, meets_arc, state_at}
 use Rattle.gas_model.specs.Rows.{Network}
 use Rattle.gas_model.specs.Near.{IsNear, HasNumbers, MeetsExactly, NearWithoutTolerance, number_at, nears_arc}
@@ -21,12 +23,12 @@ add_nothing z = omega (arith, linear)
 take_nothing : (z : ℤ) → z -ℤ pos 0 ≡ z
 take_nothing z = omega (arith, linear)
 
-exact_drag : (law : Drag) (q u v : ℤ) → nears_resistance law (pos 0) q u v ≡ meets_resistance law (pos 1) q u v
+exact_drag : (law : PipeLaw) (q u v : ℤ) → nears_resistance law (pos 0) q u v ≡ meets_resistance law (pos 1) q u v
 exact_drag law q u v =
-    let den : law.den *ℤ pos 1 ≡ law.den = mul_one law.den in
-    ap (λ (z : ℤ). int_le (drop_low law q) (law.den *ℤ z) && int_le (law.den *ℤ (u -ℤ v -ℤ pos 0)) (drop_high law q)) (add_nothing (u -ℤ v))
-    ∙ ap (λ (z : ℤ). int_le (drop_low law q) (law.den *ℤ (u -ℤ v)) && int_le (law.den *ℤ z) (drop_high law q)) (take_nothing (u -ℤ v))
-    ∙ ap (λ (z : ℤ). int_le (drop_low law q) (z *ℤ (u -ℤ v)) && int_le (z *ℤ (u -ℤ v)) (drop_high law q)) (sym den)
+    let den : law.drag.den *ℤ pos 1 ≡ law.drag.den = mul_one law.drag.den in
+    ap (λ (z : ℤ). int_le (drop_low law.drag q) (law.drag.den *ℤ z) && int_le (law.drag.den *ℤ (u -ℤ v -ℤ pos 0)) (drop_high law.drag q)) (add_nothing (u -ℤ v))
+    ∙ ap (λ (z : ℤ). int_le (drop_low law.drag q) (law.drag.den *ℤ (u -ℤ v)) && int_le (law.drag.den *ℤ z) (drop_high law.drag q)) (take_nothing (u -ℤ v))
+    ∙ ap (λ (z : ℤ). int_le (drop_low law.drag q) (z *ℤ (u -ℤ v)) && int_le (z *ℤ (u -ℤ v)) (drop_high law.drag q)) (sym den)
 
 zero_or_more : (z : ℤ) → pos 0 ≤ℤ z → at_least_zero z ≡ z
 zero_or_more z h = let t : int_le (pos 0) z ≡ true = omega (arith, linear) in ap (λ (b : Bool). cond b z (pos 0)) t
@@ -57,13 +59,13 @@ exact_loss low high q u v h k =
     ∙ ap (λ (b : Bool). cond (int_lt (pos 0) q) (falls_between low high (pos 1) u v) (cond (int_lt q (pos 0)) (falls_between low high (pos 1) v u) b)) (exact_close u v)
 
 exact_form : (form : LawForm) (q u v : ℤ) → pos 0 ≤ℤ u → pos 0 ≤ℤ v → nears_form form (pos 0) q u v ≡ meets_form form (pos 1) q u v
-exact_form (drags law) q u v h k = exact_drag law q u v
-exact_form (loses low high) q u v h k = exact_loss low high q u v h k
-exact_form equals q u v h k = refl
-exact_form shuts q u v h k = refl
-exact_form (reduces in_min out_max red_min red_max) q u v h k = refl
-exact_form (raises in_min out_max num den rise) q u v h k = refl
-exact_form never q u v h k = refl
+exact_form (Drags law) q u v h k = exact_drag law q u v
+exact_form (Loses low high) q u v h k = exact_loss low high q u v h k
+exact_form Equals q u v h k = refl
+exact_form Shuts q u v h k = refl
+exact_form (Reduces in_min out_max red_min red_max) q u v h k = refl
+exact_form (Raises in_min out_max num den rise) q u v h k = refl
+exact_form Never q u v h k = refl
 
 -- ---- squares that keep their bounds are at least 0
 kept_square : (node : NodeRow) (s : ℤ) → IsTrue (keeps_square node (pos 1) s) → pos 0 ≤ℤ s

@@ -6,7 +6,8 @@ use Rattle.gas_model.specs.declared.rows.ArcText.{ArcText}
 use Rattle.gas_model.specs.declared.rows.GroupText.{GroupText}
 use Rattle.gas_model.specs.declared.rows.ModelFault.{ModelFault}
 use Rattle.gas_model.specs.declared.rows.ModelFault.TheVariants as fault
-use Rattle.gas_model.specs.Rows.{group_ids, group_fault, group_fault_after, groups_fault, decided_by, first_offence, SameNames, Tells}
+use Rattle.gas_model.specs.Rows.{group_ids, group_fault, group_fault_after, groups_fault, decided_by, first_offence, Tells}
+use Rattle.base_types.specs.Names.{SameNames}
 use Rattle.gas_model.proofs.Decided.{take_item, same_group}
 
 -- the first offence from here on is that of this group, or one of the later groups

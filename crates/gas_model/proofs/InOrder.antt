@@ -15,7 +15,8 @@ use Rattle.gas_model.specs.declared.rows.GroupText.{GroupText}
 use Rattle.gas_model.specs.declared.rows.Ruling.{Ruling}
 use Rattle.gas_model.specs.declared.rows.Rows.{Rows}
 use Rattle.gas_model.specs.declared.rows.ModelFault.TheVariants as fault
-use Rattle.gas_model.specs.Rows.{text_ids, place, is_among, arc_takes, first_offence, rows_fault, set_key, set_of, set_fault, decision_key, decision_of, decision_fault, group_of, group_fault, group_ids, decided_in, decided_by, network_of}
+use Rattle.gas_model.specs.Rows.{text_ids, arc_takes, first_offence, rows_fault, set_key, set_of, set_fault, decision_key, decision_of, decision_fault, group_of, group_fault, group_ids, decided_in, decided_by, network_of}
+use Rattle.base_types.specs.Names.{place, is_among}
 use Rattle.gas_model.specs.Rulings.{rulings_in, rulings_by, rulings_from, rulings_at, AreInOrder}
 use Rattle.gas_model.proofs.Remade.{both_none, passed, at_place, clean_decision, clean_group, clean_rows}
 

@@ -1,4 +1,3 @@
-pub mod PlaceFacts
 pub mod Remade
 pub mod Limited
 pub mod Listed
@@ -10,6 +9,8 @@ pub mod InOrder
 pub mod PickedWord
 pub mod Exactly
 pub mod BoxFacts
-pub mod StateWords
 pub mod NodeSums
 pub mod LimitFacts
+pub mod Supplied
+pub mod FreshPart
+pub mod CurveFacts

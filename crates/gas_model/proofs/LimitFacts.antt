@@ -5,7 +5,8 @@ use Rattle.integer_laws.proofs.Ring.{linear}
 use Rattle.integer_laws.proofs.SizeLemmas.{within_parts, one_part, between_within}
 use Rattle.gas_model.specs.declared.rows.ArcRow.{ArcRow}
 use Rattle.gas_model.specs.declared.rows.NodeRow.{NodeRow}
-use Rattle.gas_model.specs.Limits.{is_flow, is_pressure, is_square, is_ratio_part, is_node_within}
+use Rattle.base_types.specs.Numbers.{is_flow, is_pressure, is_square, is_ratio_part}
+use Rattle.gas_model.specs.Limits.{is_node_within}
 use Rattle.gas_model.specs.Within.{is_row_within}
 use Rattle.gas_model.specs.BoxLimits.{IsScale}
 

@@ -19,8 +19,10 @@ use Rattle.gas_model.specs.declared.rows.Group.{Group}
 use Rattle.gas_model.specs.declared.rows.Rows.{Rows}
 use Rattle.gas_model.specs.declared.rows.Many.TheVariants as many
 use Rattle.gas_model.specs.declared.rows.ModelFault.TheVariants as fault
-use Rattle.gas_model.specs.Rows.{Network, node_ids, node_id, node_fault, text_id, text_ids, place, is_among, arc_of, arc_fault, first_offence, rows_fault, takes, set_key, set_of, set_fault, decision_key, decision_of, decision_fault, group_of, group_fault, group_ids, decided_by, network_of, IsProblem}
-use Rattle.gas_model.specs.Limits.{is_id, is_node_within}
+use Rattle.gas_model.specs.Rows.{Network, node_ids, node_id, node_fault, text_id, text_ids, arc_of, arc_fault, first_offence, rows_fault, takes, set_key, set_of, set_fault, decision_key, decision_of, decision_fault, group_of, group_fault, group_ids, decided_by, network_of, IsProblem}
+use Rattle.base_types.specs.Names.{place, is_among}
+use Rattle.base_types.specs.Ids.{is_id}
+use Rattle.gas_model.specs.Limits.{is_node_within}
 use Rattle.gas_model.specs.Within.{IsWithin, is_row_within, is_set_within, is_decision_within, is_group_within}
 use Rattle.gas_model.specs.Incidence.{AreEnds}
 use Rattle.gas_model.specs.Rulings.{GroupsDecideArcs}

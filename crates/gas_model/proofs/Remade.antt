@@ -11,8 +11,10 @@ use Rattle.gas_model.specs.declared.rows.GroupText.{GroupText}
 use Rattle.gas_model.specs.declared.rows.Rows.{Rows}
 use Rattle.gas_model.specs.declared.rows.ModelFault.TheVariants as fault
 use Rattle.gas_model.specs.declared.placing.Placed.{Placed}
-use Rattle.gas_model.specs.Rows.{node_ids, text_id, text_ids, place, is_among, arc_of, text_of, arc_id, rows_of, arc_fault, arcs_fault, first_offence, rows_fault, count_fault, group_count_fault, nodes_fault, set_key, set_of, set_text, set_fault, arc_takes, decision_key, decision_of, decision_text, decision_fault, group_of, group_text, group_fault, group_fault_after, group_ids, groups_fault, decided_by, network_of, problem_of, answer, IsProblem}
-use Rattle.gas_model.specs.Limits.{is_arc_within, is_id}
+use Rattle.gas_model.specs.Rows.{node_ids, text_id, text_ids, arc_of, text_of, arc_id, rows_of, arc_fault, arcs_fault, first_offence, rows_fault, count_fault, group_count_fault, nodes_fault, set_key, set_of, set_text, set_fault, arc_takes, decision_key, decision_of, decision_text, decision_fault, group_of, group_text, group_fault, group_fault_after, group_ids, groups_fault, decided_by, network_of, problem_of, answer, IsProblem}
+use Rattle.base_types.specs.Names.{place, is_among}
+use Rattle.gas_model.specs.Limits.{is_arc_within}
+use Rattle.base_types.specs.Ids.{is_id}
 use Rattle.gas_model.specs.Placing.{IsPlaced}
 
 pub both_none : {A : Type 0} (a b : Option A) → option_or a b ≡ None → (a ≡ None) × (b ≡ None)

@@ -5,8 +5,8 @@ use Rattle.std.specs.List.{list_all}
 use Rattle.std.specs.Option.{option_map_or}
 use Rattle.std.proofs.lemmas.List.Folds.{list_all-append}
 use Rattle.std.proofs.lemmas.Bool.Decides.{nat_tests}
-use Rattle.gas_model.specs.declared.rows.Allow.{Allow}
-use Rattle.gas_model.specs.declared.rows.ArcState.{ArcState}
+use Rattle.base_types.specs.declared.states.Allow.{Allow}
+use Rattle.base_types.specs.declared.states.ArcState.{ArcState}
 use Rattle.gas_model.specs.declared.rows.Decision.{Decision}
 use Rattle.gas_model.specs.declared.rows.Group.{Group}
 use Rattle.gas_model.specs.declared.rows.Ruling.{Ruling}

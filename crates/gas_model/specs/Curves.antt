@@ -2,6 +2,7 @@
 use Rattle.std.specs.Prelude.{ℤ, pos, ◌+ℤ◌, ◌-ℤ◌, ◌*ℤ◌, neg_ℤ, Bool, ◌&&◌, ◌||◌, int_le, int_lt, if◌then◌else◌}
 use Rattle.std.specs.Ordering.{int_eq}
 use Rattle.gas_model.specs.declared.rows.Drag.{Drag}
+use Rattle.gas_model.specs.declared.law_forms.PipeLaw.{PipeLaw}
 
 abbrev pub square : ℤ → ℤ
 square z = z *ℤ z
@@ -9,10 +10,6 @@ square z = z *ℤ z
 -- the square of q with its sign, times f forward and times g back
 abbrev pub curve : (f g q : ℤ) → ℤ
 curve f g q = if int_le (pos 0) q then f *ℤ square q else neg_ℤ (g *ℤ square q)
-
--- q times its size
-abbrev pub signed_square : ℤ → ℤ
-signed_square q = curve (pos 1) (pos 1) q
 
 -- the least and the greatest drop of the squares at the flow q, times the denominator of the resistance
 abbrev pub drop_low : Drag → ℤ → ℤ
@@ -36,14 +33,14 @@ at_least d y x D = int_le (pos 0) (excess d y x D) && int_le (pos 4 *ℤ square 
 
 -- The interval form of the Weymouth law, where the flow is q / d and the squares are u / d and v / d:
 -- the squares drop by what some resistance of the interval asks for.
-abbrev pub meets_resistance : Drag → (d q u v : ℤ) → Bool
+abbrev pub meets_resistance : PipeLaw → (d q u v : ℤ) → Bool
 meets_resistance law d q u v =
-    int_le (drop_low law q) (law.den *ℤ d *ℤ (u -ℤ v)) && int_le (law.den *ℤ d *ℤ (u -ℤ v)) (drop_high law q)
+    int_le (drop_low law.drag q) (law.drag.den *ℤ d *ℤ (u -ℤ v)) && int_le (law.drag.den *ℤ d *ℤ (u -ℤ v)) (drop_high law.drag q)
 
 -- the same over whole numbers, where the drop of the squares may be off by the tolerance
-abbrev pub nears_resistance : Drag → (tol q u v : ℤ) → Bool
+abbrev pub nears_resistance : PipeLaw → (tol q u v : ℤ) → Bool
 nears_resistance law tol q u v =
-    int_le (drop_low law q) (law.den *ℤ (u -ℤ v +ℤ tol)) && int_le (law.den *ℤ (u -ℤ v -ℤ tol)) (drop_high law q)
+    int_le (drop_low law.drag q) (law.drag.den *ℤ (u -ℤ v +ℤ tol)) && int_le (law.drag.den *ℤ (u -ℤ v -ℤ tol)) (drop_high law.drag q)
 
 -- the pressure falls from x to y by low to high Pa
 abbrev pub falls_between : (low high d x y : ℤ) → Bool

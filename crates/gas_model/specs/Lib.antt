@@ -1,6 +1,5 @@
 pub mod Limits
 pub mod Rows
-pub mod Words
 pub mod Choices
 pub mod Rulings
 pub mod Curves
@@ -9,8 +8,8 @@ pub mod Points
 pub mod Boxes
 pub mod BoxLimits
 pub mod Near
-pub mod Texts
 pub mod Within
 pub mod Placing
 pub mod Incidence
 pub mod Problems
+pub mod Supplies

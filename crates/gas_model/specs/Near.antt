@@ -3,9 +3,9 @@ use Rattle.std.specs.Prelude.{ℕ, ◌≡◌, ◌↔◌, ℤ, pos, List, length,
 use Rattle.std.specs.List.{list_all}
 use Rattle.gas_model.specs.declared.rows.NodeRow.{NodeRow}
 use Rattle.gas_model.specs.declared.rows.ArcRow.{ArcRow}
-use Rattle.gas_model.specs.declared.rows.ArcState.{ArcState}
+use Rattle.base_types.specs.declared.states.ArcState.{ArcState}
 use Rattle.gas_model.specs.declared.rows.Setting.{Setting}
-use Rattle.gas_model.specs.Limits.{is_flow, is_square}
+use Rattle.base_types.specs.Numbers.{is_flow, is_square}
 use Rattle.gas_model.specs.Rows.{Network}
 use Rattle.gas_model.specs.Choices.{ArePicks, IsListed}
 use Rattle.gas_model.specs.Laws.{form_of, nears_form}

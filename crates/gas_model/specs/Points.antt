@@ -2,10 +2,10 @@
 use Rattle.std.specs.Prelude.{ℕ, ◌+◌, ◌==◌, ◌≡◌, ◌||◌, ℤ, pos, ◌+ℤ◌, ◌-ℤ◌, ◌*ℤ◌, ◌≤ℤ◌, List, [], ◌∷◌, Bool, if◌then◌else◌, Some, slice_get, slice_index_or, IsTrue}
 use Rattle.gas_model.specs.declared.rows.NodeRow.{NodeRow}
 use Rattle.gas_model.specs.declared.rows.ArcRow.{ArcRow}
-use Rattle.gas_model.specs.declared.rows.ArcState.{ArcState}
-use Rattle.gas_model.specs.declared.rows.ArcState.TheVariants.{Opened}
+use Rattle.base_types.specs.declared.states.ArcState.{ArcState}
+use Rattle.base_types.specs.declared.states.ArcState.TheVariants.{Opened}
 use Rattle.gas_model.specs.Rows.{Network}
-use Rattle.gas_model.specs.Limits.{between}
+use Rattle.base_types.specs.Numbers.{between}
 use Rattle.gas_model.specs.Curves.{square}
 use Rattle.gas_model.specs.Laws.{form_of, meets_form}
 use Rattle.gas_model.specs.Choices.{IsListed}

@@ -13,6 +13,6 @@ network a = record { nodes = a.nodes; arcs = a.arcs; groups = a.groups }
 pub record IsWhole (a : Inside) : Type 0 where
   pub problem : IsProblem (network a)
   pub within : IsWithin (network a)
-  pub arcs_at : KeepsArcsAt (map (λ v. v.items) a.arcs_at.items) (length a.nodes) a.arcs
+  pub arcs_at : KeepsArcsAt (map (λ v. v.items) a.arcs_at.value.items) (length a.nodes) a.arcs
   pub rulings : KeepsRulings (map (λ v. v.items) a.rulings.items) (length a.arcs) a.groups
   pub order : (i : ℕ) → AreInOrder (rulings_at a.groups i)

@@ -1,6 +1,6 @@
 -- What rows make a problem, and the first offence of other rows.
-use Rattle.std.specs.Prelude.{◌≡◌, ℕ, ◌||◌, ◌==◌, not, nat_le, List, [], ◌∷◌, ◌++◌, length, map, position, Bool, true, false, if◌then◌else◌, Option, Some, None, is_none, unwrap_or, option_and_then, Result, Ok, Err, slice_index_or, slice_get}
-use Rattle.std.specs.List.{list_any, list_all, flat_map}
+use Rattle.std.specs.Prelude.{◌≡◌, ℕ, ◌||◌, ◌==◌, not, nat_le, List, [], ◌∷◌, ◌++◌, length, map, Bool, true, false, if◌then◌else◌, Option, Some, None, is_none, unwrap_or, option_and_then, Result, Ok, Err, slice_index_or, slice_get}
+use Rattle.std.specs.List.{list_all, flat_map}
 use Rattle.std.specs.Str.{bytes_eq}
 use Rattle.std.specs.Option.{option_or, option_map_or}
 use Rattle.gas_model.specs.declared.rows.NodeRow.{NodeRow}
@@ -8,8 +8,8 @@ use Rattle.gas_model.specs.declared.rows.ArcKind.{ArcKind}
 use Rattle.gas_model.specs.declared.rows.ArcKind.TheVariants.{Pipe, Short, Resist, Loss, Valve, Control, Station}
 use Rattle.gas_model.specs.declared.rows.ArcText.{ArcText}
 use Rattle.gas_model.specs.declared.rows.ArcRow.{ArcRow}
-use Rattle.gas_model.specs.declared.rows.Allow.{Allow}
-use Rattle.gas_model.specs.declared.rows.Allow.TheVariants.{Opened, Shut}
+use Rattle.base_types.specs.declared.states.Allow.{Allow}
+use Rattle.base_types.specs.declared.states.Allow.TheVariants.{Opened, Shut}
 use Rattle.gas_model.specs.declared.rows.SetText.{SetText}
 use Rattle.gas_model.specs.declared.rows.DecisionText.{DecisionText}
 use Rattle.gas_model.specs.declared.rows.GroupText.{GroupText}
@@ -19,25 +19,15 @@ use Rattle.gas_model.specs.declared.rows.Rows.{Rows}
 use Rattle.gas_model.specs.declared.rows.Many.TheVariants as many
 use Rattle.gas_model.specs.declared.rows.ModelFault.{ModelFault}
 use Rattle.gas_model.specs.declared.rows.ModelFault.TheVariants as fault
-use Rattle.gas_model.specs.Limits.{is_id, is_node_within, is_arc_within}
+use Rattle.base_types.specs.Ids.{is_id}
+use Rattle.base_types.specs.Names.{place, is_among}
+use Rattle.gas_model.specs.Limits.{is_node_within, is_arc_within}
 
 -- what contracts see of a problem: its rows, with positions in place of names
 pub record Network : Type 0 where
   pub nodes : List NodeRow
   pub arcs : List ArcRow
   pub groups : List Group
-
--- the place of an id in a list of ids
-abbrev pub place : List (List ℕ) → List ℕ → Option ℕ
-place names id = position (bytes_eq id) names
-
--- whether an id is among these
-abbrev pub is_among : List (List ℕ) → List ℕ → Bool
-is_among names id = list_any (bytes_eq id) names
-
--- the same names are among both lists
-abbrev pub SameNames : List (List ℕ) → List (List ℕ) → Type 0
-SameNames xs ys = (id : List ℕ) → is_among xs id ≡ is_among ys id
 
 -- the first offence in a list, where the check of an item sees the keys of the items before it
 abbrev pub first_offence : {A K F : Type 0} → (A → K) → (List K → A → Option F) → List K → List A → Option F

@@ -4,10 +4,12 @@ use Rattle.std.specs.List.{list_all}
 use Rattle.std.specs.Option.{option_map_or}
 use Rattle.gas_model.specs.declared.rows.NodeRow.{NodeRow}
 use Rattle.gas_model.specs.declared.rows.ArcRow.{ArcRow}
-use Rattle.gas_model.specs.declared.rows.Allow.{Allow}
+use Rattle.base_types.specs.declared.states.Allow.{Allow}
 use Rattle.gas_model.specs.declared.rows.Decision.{Decision}
 use Rattle.gas_model.specs.declared.rows.Group.{Group}
-use Rattle.gas_model.specs.Limits.{is_id, is_flow, is_kind_within, is_node_within}
+use Rattle.base_types.specs.Ids.{is_id}
+use Rattle.base_types.specs.Numbers.{is_flow}
+use Rattle.gas_model.specs.Limits.{is_kind_within, is_node_within}
 use Rattle.gas_model.specs.Rows.{Network, takes}
 
 abbrev pub is_row_within : ArcRow → Bool

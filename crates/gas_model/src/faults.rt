@@ -3,8 +3,8 @@ ghost use Rattle.std.specs.Prelude.{Some};
 ghost use Rattle.gas_model.specs.Rows.{Tells};
 ghost use Rattle.gas_model.specs.declared.rows.ModelFault.TheVariants as fault;
 
-use crate::collections::Name;
 use crate::rows::ModelFault;
+use base_types::Name;
 use std::alloc::Global;
 
 pub fn over_limit(alloc: Global, id: &Name) -> ModelFault

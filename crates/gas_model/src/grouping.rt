@@ -1,16 +1,14 @@
 // Groups with the positions of their arcs, or the first offence of groups.
 ghost use Rattle.std.specs.Prelude.{◌≡◌, None, IfOk, IfErr, OnOk, [], ◌∷◌, ◌++◌, ◌≤◌, length, map, nat_le};
 ghost use Rattle.std.specs.List.{list_all};
-ghost use Rattle.gas_model.specs.Rows.{text_ids, set_key, set_of, set_fault, decision_key, decision_of, decision_fault, decided_in, group_of, group_fault_after, group_ids, groups_fault, group_count_fault, first_offence, SameNames, Tells};
+ghost use Rattle.gas_model.specs.Rows.{text_ids, set_key, set_of, set_fault, decision_key, decision_of, decision_fault, decided_in, group_of, group_fault_after, group_ids, groups_fault, group_count_fault, first_offence, Tells};
+ghost use Rattle.base_types.specs.Names.{SameNames};
 
-use crate::collections::{List, Name, NoMemory};
 use crate::faults::{empty_group, no_such_arc, not_active, over_limit, twice_decided, twice_named};
-use crate::limits::is_id;
-use crate::places::Places;
-use crate::rows::{
-    Allow, ArcText, Decision, DecisionText, Group, GroupText, Many, ModelFault, SetText,
-};
+use crate::rows::{ArcText, Decision, DecisionText, Group, GroupText, Many, ModelFault, SetText};
 use crate::states::takes;
+use base_types::{Allow, List, Name, NoMemory, is_id};
+use name_places::NamePlaces;
 use std::alloc::Global;
 
 const MAX_GROUPS: usize = 256;
@@ -21,7 +19,7 @@ const MAX_DECISIONS: usize = 1_024;
 fn arc_of_set(
     alloc: Global,
     arcs: &[ArcText],
-    ids: &Places<'_>,
+    ids: &NamePlaces<'_>,
     group: &Name,
     set: &SetText,
 ) -> Result<u32, ModelFault>
@@ -44,10 +42,10 @@ fn arc_of_set(
 fn add_set<'a>(
     alloc: Global,
     arcs: &[ArcText],
-    ids: &Places<'_>,
+    ids: &NamePlaces<'_>,
     group: &Name,
-    decided: &Places<'_>,
-    earlier: &mut Places<'a>,
+    decided: &NamePlaces<'_>,
+    earlier: &mut NamePlaces<'a>,
     set: &'a SetText,
 ) -> Result<(u32, Allow), ModelFault>
     requires ids { ids.now ≡ text_ids arcs.now }
@@ -71,9 +69,9 @@ fn add_set<'a>(
 fn place_sets(
     alloc: Global,
     arcs: &[ArcText],
-    ids: &Places<'_>,
+    ids: &NamePlaces<'_>,
     group: &Name,
-    decided: &Places<'_>,
+    decided: &NamePlaces<'_>,
     sets: &[SetText],
 ) -> Result<List<(u32, Allow)>, ModelFault>
     requires ids { ids.now ≡ text_ids arcs.now }
@@ -82,7 +80,7 @@ fn place_sets(
     ensures clean { OnOk result (first_offence set_key (set_fault arcs.now group.now decided.now) [] sets.now ≡ None) }
     ensures err { IfErr result (λ e. Tells e (first_offence set_key (set_fault arcs.now group.now decided.now) [] sets.now)) }
 {
-    let mut earlier = Places::new(alloc);
+    let mut earlier = NamePlaces::new(alloc);
     let mut placed = List::new(alloc);
     for set in sets {
         placed.push(add_set(alloc, arcs, ids, group, decided, &mut earlier, set)?)?;
@@ -94,10 +92,10 @@ fn place_sets(
 fn add_decision<'a>(
     alloc: Global,
     arcs: &[ArcText],
-    ids: &Places<'_>,
+    ids: &NamePlaces<'_>,
     group: &Name,
-    decided: &Places<'_>,
-    earlier: &mut Places<'a>,
+    decided: &NamePlaces<'_>,
+    earlier: &mut NamePlaces<'a>,
     decision: &'a DecisionText,
 ) -> Result<Decision, ModelFault>
     requires ids { ids.now ≡ text_ids arcs.now }
@@ -122,8 +120,8 @@ fn add_decision<'a>(
 fn place_decisions(
     alloc: Global,
     arcs: &[ArcText],
-    ids: &Places<'_>,
-    decided: &Places<'_>,
+    ids: &NamePlaces<'_>,
+    decided: &NamePlaces<'_>,
     group: &GroupText,
 ) -> Result<List<Decision>, ModelFault>
     requires ids { ids.now ≡ text_ids arcs.now }
@@ -132,7 +130,7 @@ fn place_decisions(
     ensures clean { OnOk result (first_offence decision_key (decision_fault arcs.now group.now.id decided.now) [] group.now.decisions ≡ None) }
     ensures err { IfErr result (λ e. Tells e (first_offence decision_key (decision_fault arcs.now group.now.id decided.now) [] group.now.decisions)) }
 {
-    let mut earlier = Places::new(alloc);
+    let mut earlier = NamePlaces::new(alloc);
     let mut placed = List::new(alloc);
     let decisions = group.decisions.as_slice();
     for decision in decisions {
@@ -145,9 +143,9 @@ fn place_decisions(
 fn add_group<'a>(
     alloc: Global,
     arcs: &[ArcText],
-    ids: &Places<'_>,
-    decided: &Places<'_>,
-    earlier: &mut Places<'a>,
+    ids: &NamePlaces<'_>,
+    decided: &NamePlaces<'_>,
+    earlier: &mut NamePlaces<'a>,
     group: &'a GroupText,
 ) -> Result<Group, ModelFault>
     requires ids { ids.now ≡ text_ids arcs.now }
@@ -172,7 +170,7 @@ fn add_group<'a>(
 }
 
 // Adds the arcs that these sets name.
-fn note_sets<'a>(decided: &mut Places<'a>, sets: &'a [SetText]) -> Result<(), NoMemory>
+fn note_sets<'a>(decided: &mut NamePlaces<'a>, sets: &'a [SetText]) -> Result<(), NoMemory>
     ensures { OnOk result (SameNames decided.new (decided.old ++ map set_key sets.now)) }
 {
     for set in sets {
@@ -182,7 +180,7 @@ fn note_sets<'a>(decided: &mut Places<'a>, sets: &'a [SetText]) -> Result<(), No
 }
 
 // Adds the arcs of which a group speaks.
-fn note_group<'a>(decided: &mut Places<'a>, group: &'a GroupText) -> Result<(), NoMemory>
+fn note_group<'a>(decided: &mut NamePlaces<'a>, group: &'a GroupText) -> Result<(), NoMemory>
     ensures { OnOk result (SameNames decided.new (decided.old ++ decided_in group.now)) }
 {
     let decisions = group.decisions.as_slice();
@@ -196,7 +194,7 @@ fn note_group<'a>(decided: &mut Places<'a>, group: &'a GroupText) -> Result<(), 
 pub fn place_groups(
     alloc: Global,
     arcs: &[ArcText],
-    ids: &Places<'_>,
+    ids: &NamePlaces<'_>,
     groups: &[GroupText],
 ) -> Result<List<Group>, ModelFault>
     requires ids { ids.now ≡ text_ids arcs.now }
@@ -205,8 +203,8 @@ pub fn place_groups(
     ensures clean { OnOk result (groups_fault arcs.now groups.now ≡ None) }
     ensures err { IfErr result (λ e. Tells e (groups_fault arcs.now groups.now)) }
 {
-    let mut decided = Places::new(alloc);
-    let mut earlier = Places::new(alloc);
+    let mut decided = NamePlaces::new(alloc);
+    let mut earlier = NamePlaces::new(alloc);
     let mut placed = List::new(alloc);
     for group in groups {
         placed.push(add_group(alloc, arcs, ids, &decided, &mut earlier, group)?)?;

@@ -2,10 +2,11 @@
 ghost use Rattle.std.specs.Prelude.{◌≡◌, ◌<◌, [], length, map, IfOk, OnOk};
 ghost use Rattle.gas_model.specs.Incidence.{noted, AreEnds, KeepsArcsAt};
 
-use crate::collections::NoMemory;
 use crate::rows::ArcRow;
+use base_types::{NoMemory, shared};
 use smallvec::SmallVec;
 use std::alloc::Global;
+use std::rc::Rc;
 
 /// The arcs that leave or enter a node, mostly a few.
 pub type ArcsAt = SmallVec<u32, 4>;
@@ -31,7 +32,7 @@ fn empty_lists(alloc: Global, count: usize) -> Result<Vec<ArcsAt>, NoMemory>
 }
 
 // The arcs at each node, in order.
-pub fn arcs_at_nodes(alloc: Global, nodes: usize, arcs: &[ArcRow]) -> Result<Vec<ArcsAt>, NoMemory>
+fn lists_at_nodes(alloc: Global, nodes: usize, arcs: &[ArcRow]) -> Result<Vec<ArcsAt>, NoMemory>
     requires { AreEnds nodes arcs.now }
     ensures { IfOk result (λ lists. KeepsArcsAt (map (λ v. v.items) lists.items) nodes arcs.now) }
 {
@@ -41,4 +42,17 @@ pub fn arcs_at_nodes(alloc: Global, nodes: usize, arcs: &[ArcRow]) -> Result<Vec
         note(&mut lists, row.to, a as u32)?;
     }
     Ok(lists)
+}
+
+/// The arcs at each node, in order, which shapes of the network share.
+pub fn arcs_at_nodes(
+    alloc: Global,
+    nodes: usize,
+    arcs: &[ArcRow],
+) -> Result<Rc<Vec<ArcsAt>>, NoMemory>
+    requires { AreEnds nodes arcs.now }
+    ensures { IfOk result (λ lists. KeepsArcsAt (map (λ v. v.items) lists.value.items) nodes arcs.now) }
+{
+    let lists = lists_at_nodes(alloc, nodes, arcs)?;
+    shared(alloc, lists)
 }

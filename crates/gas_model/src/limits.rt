@@ -1,79 +1,12 @@
 // The limits of the numbers and ids of a problem.
 ghost use Rattle.std.specs.Prelude.{◌≡◌};
 ghost use Rattle.std.specs.List.{list_all};
-ghost use Rattle.gas_model.specs.Limits.{is_id, has_id_form, is_id_byte, between, is_pressure, is_difference, is_flow, is_drag_part, is_ratio_part, is_ratio_within, are_station_pressures, is_drag_within, is_kind_within, is_node_within, is_arc_within};
+ghost use Rattle.base_types.specs.Ids.{is_id, has_id_form, is_id_byte};
+ghost use Rattle.base_types.specs.Numbers.{between, is_pressure, is_difference, is_flow, is_drag_part, is_ratio_part};
+ghost use Rattle.gas_model.specs.Limits.{is_ratio_within, are_station_pressures, is_drag_within, is_kind_within, is_node_within, is_arc_within};
 
 use crate::rows::{ArcKind, ArcText, Drag, NodeRow};
-
-/// The greatest pressure bound, in Pa.
-pub const MAX_PRESSURE: i64 = 100_000_000;
-
-/// The greatest difference of pressures, loss or rise, in Pa.
-pub const MAX_DIFFERENCE: i64 = 400_000_000;
-
-/// The greatest flow or supply either way, in l/h.
-pub const MAX_FLOW: i64 = 1_000_000_000_000;
-
-/// The greatest number of a resistance.
-pub const MAX_DRAG_PART: i64 = 1 << 38;
-
-/// The greatest number of a ratio.
-pub const MAX_RATIO_PART: i64 = 1 << 20;
-
-fn are_id_bytes(bytes: &[u8]) -> bool
-    ensures { result ≡ list_all is_id_byte bytes.now }
-{
-    bytes.iter().all(|b| 0x21 <= *b && *b != 0x7F)
-}
-
-fn has_id_form(text: &str) -> bool
-    ensures { result ≡ has_id_form text.now }
-{
-    !text.is_empty() && text.len() <= 200 && are_id_bytes(text.as_bytes())
-}
-
-/// Whether a text may be an id: it has 1 to 200 bytes, none below 0x21 and none 0x7F.
-pub fn is_id(text: &str) -> bool
-    ensures { result ≡ is_id text.now }
-{
-    has_id_form(text)
-}
-
-fn is_between(low: i64, x: i64, high: i64) -> bool
-    ensures { result ≡ between low x high }
-{
-    low <= x && x <= high
-}
-
-fn is_pressure(x: i64) -> bool
-    ensures { result ≡ is_pressure x }
-{
-    is_between(0, x, MAX_PRESSURE)
-}
-
-fn is_difference(x: i64) -> bool
-    ensures { result ≡ is_difference x }
-{
-    is_between(0, x, MAX_DIFFERENCE)
-}
-
-fn is_flow(x: i64) -> bool
-    ensures { result ≡ is_flow x }
-{
-    is_between(-MAX_FLOW, x, MAX_FLOW)
-}
-
-fn is_drag_part(x: i64) -> bool
-    ensures { result ≡ is_drag_part x }
-{
-    is_between(1, x, MAX_DRAG_PART)
-}
-
-fn is_ratio_part(x: i64) -> bool
-    ensures { result ≡ is_ratio_part x }
-{
-    is_between(1, x, MAX_RATIO_PART)
-}
+use base_types::{is_difference, is_drag_part, is_flow, is_id, is_pressure, is_ratio_part};
 
 fn is_ratio_within(num: i64, den: i64) -> bool
     ensures { result ≡ is_ratio_within num den }

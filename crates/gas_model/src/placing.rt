@@ -3,12 +3,12 @@ ghost use Rattle.std.specs.Prelude.{◌≡◌, None, Some, IfOk, IfErr, OnOk, []
 ghost use Rattle.gas_model.specs.Rows.{node_id, node_ids, node_fault, nodes_fault, text_id, text_ids, arc_of, arc_fault, arcs_fault, count_fault, uncounted_fault, rows_fault, Tells};
 ghost use Rattle.gas_model.specs.Placing.{IsPlaced};
 
-use crate::collections::List;
 use crate::faults::{no_such_node, over_limit, same_ends, twice_named};
 use crate::grouping::{count_groups, place_groups};
 use crate::limits::{is_arc_within, is_node_within};
-use crate::places::Places;
 use crate::rows::{ArcRow, ArcText, Group, Many, ModelFault, NodeRow, Rows};
+use base_types::List;
+use name_places::NamePlaces;
 use std::alloc::Global;
 
 const MAX_NODES: usize = 2_000;
@@ -16,7 +16,11 @@ const MAX_NODES: usize = 2_000;
 const MAX_ARCS: usize = 2_000;
 
 // Adds the id of a node to those of the nodes before it.
-fn add_node<'a>(alloc: Global, ids: &mut Places<'a>, node: &'a NodeRow) -> Result<(), ModelFault>
+fn add_node<'a>(
+    alloc: Global,
+    ids: &mut NamePlaces<'a>,
+    node: &'a NodeRow,
+) -> Result<(), ModelFault>
     ensures ok { OnOk result (ids.new ≡ ids.old ++ node_id node.now ∷ []) }
     ensures clean { OnOk result (node_fault ids.old node.now ≡ None) }
     ensures err { IfErr result (λ e. Tells e (node_fault ids.old node.now)) }
@@ -31,12 +35,12 @@ fn add_node<'a>(alloc: Global, ids: &mut Places<'a>, node: &'a NodeRow) -> Resul
 }
 
 // The ids of the nodes with their places.
-fn place_nodes(alloc: Global, nodes: &[NodeRow]) -> Result<Places<'_>, ModelFault>
+fn place_nodes(alloc: Global, nodes: &[NodeRow]) -> Result<NamePlaces<'_>, ModelFault>
     ensures places { IfOk result (λ ids. ids ≡ node_ids nodes.now) }
     ensures clean { OnOk result (nodes_fault nodes.now ≡ None) }
     ensures err { IfErr result (λ e. Tells e (nodes_fault nodes.now)) }
 {
-    let mut ids = Places::new(alloc);
+    let mut ids = NamePlaces::new(alloc);
     for node in nodes {
         add_node(alloc, &mut ids, node)?;
     }
@@ -44,7 +48,7 @@ fn place_nodes(alloc: Global, nodes: &[NodeRow]) -> Result<Places<'_>, ModelFaul
 }
 
 // The places of the ends of an arc whose id is new.
-fn ends_of(alloc: Global, nodes: &Places<'_>, arc: &ArcText) -> Result<(u32, u32), ModelFault>
+fn ends_of(alloc: Global, nodes: &NamePlaces<'_>, arc: &ArcText) -> Result<(u32, u32), ModelFault>
     requires { length nodes.now ≤ 2000 }
     ensures ok { IfOk result (λ ends. (ends.0 ≡ (arc_of nodes.now arc.now).from) × (ends.1 ≡ (arc_of nodes.now arc.now).to)) }
     ensures clean { OnOk result (arc_fault nodes.now [] arc.now ≡ None) }
@@ -68,8 +72,8 @@ fn ends_of(alloc: Global, nodes: &Places<'_>, arc: &ArcText) -> Result<(u32, u32
 // An arc with the places of its ends, after arcs of the ids in `earlier`.
 fn add_arc<'a>(
     alloc: Global,
-    nodes: &Places<'_>,
-    earlier: &mut Places<'a>,
+    nodes: &NamePlaces<'_>,
+    earlier: &mut NamePlaces<'a>,
     arc: &'a ArcText,
 ) -> Result<ArcRow, ModelFault>
     requires { length nodes.now ≤ 2000 }
@@ -95,8 +99,8 @@ fn add_arc<'a>(
 // All arcs with the places of their ends, and their ids in `ids`.
 fn place_arcs<'a>(
     alloc: Global,
-    nodes: &Places<'_>,
-    ids: &mut Places<'a>,
+    nodes: &NamePlaces<'_>,
+    ids: &mut NamePlaces<'a>,
     arcs: &'a [ArcText],
 ) -> Result<List<ArcRow>, ModelFault>
     requires few { length nodes.now ≤ 2000 }
@@ -144,7 +148,7 @@ fn place_counted(alloc: Global, rows: &Rows) -> Result<Placed, ModelFault>
 {
     let texts = rows.arcs.as_slice();
     let nodes = place_nodes(alloc, rows.nodes.as_slice())?;
-    let mut ids = Places::new(alloc);
+    let mut ids = NamePlaces::new(alloc);
     let arcs = place_arcs(alloc, &nodes, &mut ids, texts)?;
     let groups = place_groups(alloc, texts, &ids, rows.groups.as_slice())?;
     Ok(Placed { arcs, groups })

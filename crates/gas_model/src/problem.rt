@@ -1,21 +1,26 @@
 // Problems: rows within the limits, with positions in place of names.
-ghost use Rattle.std.specs.Prelude.{◌≡◌, ◌<◌, Some, length, map, slice_get, IfOk};
+ghost use Rattle.std.specs.Prelude.{◌≡◌, ◌<◌, Some, length, map, slice_get, IfOk, IsTrue};
 ghost use Rattle.gas_model.specs.Rows.{problem_of, Gives, IsProblem};
 ghost use Rattle.gas_model.specs.Points.{arcs_at};
 ghost use Rattle.gas_model.specs.Choices.{may_be, picks_allow, allowed_states, fixed_state, fresh_part, PartFits};
 ghost use Rattle.gas_model.specs.Rulings.{rulings_at, is_free, word_allows, AreInOrder};
+ghost use Rattle.gas_model.specs.Incidence.{KeepsArcsAt};
 ghost use Rattle.gas_model.specs.Within.{IsWithin};
+ghost use Rattle.gas_model.specs.Supplies.{with_supply};
+ghost use Rattle.base_types.specs.Numbers.{is_flow};
 ghost use Rattle.gas_model.specs.declared.rows.ArcRow.{ArcRow};
-ghost use Rattle.gas_model.specs.declared.rows.ArcState.{ArcState};
+ghost use Rattle.base_types.specs.declared.states.ArcState.{ArcState};
 
-use crate::collections::{List, NoMemory};
+use crate::copies::{copy_arcs, copy_groups, supplied_nodes};
 use crate::incidence::{ArcsAt, arcs_at_nodes};
 use crate::placing::place_rows;
-use crate::rows::{Allow, ArcRow, ArcState, Group, ModelFault, NodeRow, PartState, Rows, Ruling};
+use crate::rows::{ArcRow, Group, ModelFault, NodeRow, PartState, Rows, Ruling};
 use crate::rulings::{are_picked, picked_word, rulings_of_arcs};
 use crate::states::{has_state, only_left, only_state, pick_in, pick_of, states_left, word_allows};
+use base_types::{Allow, ArcState, List, NoMemory, another_owner};
 use std::alloc::Global;
 use std::marker::Model;
+use std::rc::Rc;
 
 /// A network with its nomination. Contracts see its rows, with positions in place of names.
 /// It also keeps which arcs leave or enter each node, and what decisions say of each arc.
@@ -24,7 +29,7 @@ pub struct Problem {
     nodes: List<NodeRow>,
     arcs: List<ArcRow>,
     groups: List<Group>,
-    arcs_at: Vec<ArcsAt>,
+    arcs_at: Rc<Vec<ArcsAt>>,
     rulings: Vec<Vec<Ruling>>,
 }
 
@@ -98,6 +103,13 @@ impl Problem {
         ensures within { IsWithin self.now }
     {
         self.arcs_at[node as usize].as_slice()
+    }
+
+    /// The arcs at each node, in order, for one more owner.
+    pub fn shared_arcs_at(&self) -> Result<Rc<Vec<ArcsAt>>, NoMemory>
+        ensures { IfOk result (λ lists. KeepsArcsAt (map (λ v. v.items) lists.value.items) (length self.now.nodes) self.now.arcs) }
+    {
+        another_owner(&self.arcs_at)
     }
 
     /// What the decisions of all groups say of an arc: one group says all of it, each of its decisions at most once, in
@@ -182,13 +194,37 @@ impl Problem {
     }
 
     /// The part state in which nothing is picked and no state is named.
+    #[tactic(auto, using(crate::proofs::FreshPart::fresh_fits))]
     pub fn fresh(&self) -> Result<PartState, NoMemory>
-        ensures { IfOk result (λ part. part ≡ fresh_part self.now) }
+        ensures part { IfOk result (λ part. part ≡ fresh_part self.now) }
+        ensures fits { IfOk result (λ part. PartFits self.now part) }
     {
         let alloc = *self.rulings.allocator();
         Ok(PartState {
             picks: List::filled(alloc, None, self.groups.as_slice().len())?,
             states: List::filled(alloc, None, self.arcs.as_slice().len())?,
+        })
+    }
+
+    /// The same problem, but for the bounds of the supply of one node, each within 10^12 l/h either way.
+    pub fn with_supply(&self, node: u32, b_min: i64, b_max: i64) -> Result<Problem, NoMemory>
+        requires node { node < length self.now.nodes }
+        requires low { IsTrue (is_flow b_min) }
+        requires high { IsTrue (is_flow b_max) }
+        ensures { IfOk result (λ p. p ≡ with_supply self.now node b_min b_max) }
+    {
+        let alloc = *self.rulings.allocator();
+        let nodes = supplied_nodes(alloc, self.nodes(), node as usize, b_min, b_max)?;
+        let arcs = copy_arcs(alloc, self.arcs())?;
+        let groups = copy_groups(alloc, self.groups())?;
+        let arcs_at = arcs_at_nodes(alloc, nodes.as_slice().len(), arcs.as_slice())?;
+        let rulings = rulings_of_arcs(alloc, arcs.as_slice().len(), groups.as_slice())?;
+        Ok(Problem {
+            nodes,
+            arcs,
+            groups,
+            arcs_at,
+            rulings,
         })
     }
 }

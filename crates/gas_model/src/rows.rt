@@ -2,7 +2,7 @@
 ghost use Rattle.std.specs.Prelude.{◌≡◌};
 ghost use Rattle.gas_model.specs.declared.rows.ModelFault.TheVariants as fault;
 
-use crate::collections::{List, Name, NoMemory};
+use base_types::{Allow, ArcState, List, Name, NoMemory};
 
 /// A node: bounds of its pressure in Pa, from 0 to 10^8, and of its supply in l/h, within 10^12.
 /// The supply is what the node brings into the network, so that of a sink is negative.
@@ -75,16 +75,6 @@ pub struct ArcRow {
     pub kind: ArcKind,
 }
 
-/// The states that a decision allows an arc. `On` allows active and bypass.
-#[derive(Clone, Copy, Debug, PartialEq, Eq)]
-pub enum Allow {
-    Opened,
-    Shut,
-    Active,
-    Bypass,
-    On,
-}
-
 /// What a decision says of the arc of this name.
 #[derive(Debug, Drop)]
 pub struct SetText {
@@ -136,15 +126,6 @@ pub struct Rows {
     pub groups: List<GroupText>,
 }
 
-/// The state of an arc.
-#[derive(Clone, Copy, Debug, PartialEq, Eq)]
-pub enum ArcState {
-    Opened,
-    Shut,
-    Active,
-    Bypass,
-}
-
 /// A decision picked for some groups, and a state fixed for some arcs.
 #[derive(Debug, Drop)]
 pub struct PartState {
@@ -159,13 +140,6 @@ pub struct Setting {
     pub states: List<ArcState>,
     pub flows: List<i64>,
     pub squares: List<i64>,
-}
-
-/// A variable: the flow of an arc or the squared pressure of a node, by its position.
-#[derive(Clone, Copy, Debug, PartialEq, Eq)]
-pub enum Var {
-    Flow(u32),
-    Square(u32),
 }
 
 /// The lower and the upper end of a variable in a box, in units of 1/K.

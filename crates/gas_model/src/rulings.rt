@@ -2,11 +2,11 @@
 ghost use Rattle.std.specs.Prelude.{◌≡◌, ◌<◌, ◌≤◌, ℕ, [], length, map, Some, IfOk, OnOk, Option, is_some};
 ghost use Rattle.std.specs.List.{list_all};
 ghost use Rattle.gas_model.specs.Rulings.{rulings_in, rulings_by, one_ruling, all_leave, word_allows, pick_in, pick_for, AreInOrder, Grew, KeepsRulings, NameArcs, DecideArcs, GroupsDecideArcs};
-ghost use Rattle.gas_model.specs.declared.rows.ArcState.{ArcState};
+ghost use Rattle.base_types.specs.declared.states.ArcState.{ArcState};
 
-use crate::collections::NoMemory;
-use crate::rows::{Allow, Decision, Group, Ruling};
+use crate::rows::{Decision, Group, Ruling};
 use crate::states::pick_in;
+use base_types::{Allow, NoMemory};
 use std::alloc::Global;
 
 // Adds a ruling to the list of an arc.

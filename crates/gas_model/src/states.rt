@@ -3,10 +3,10 @@ ghost use Rattle.std.specs.Prelude.{◌≡◌, [], ◌∷◌, filter, find, map,
 ghost use Rattle.gas_model.specs.Choices.{allows, has_state, states_of, only};
 ghost use Rattle.gas_model.specs.Rows.{takes};
 ghost use Rattle.gas_model.specs.Rulings.{leaves, all_leave, pick_in, word_allows};
-ghost use Rattle.gas_model.specs.declared.rows.ArcState.{ArcState};
+ghost use Rattle.base_types.specs.declared.states.ArcState.{ArcState};
 
-use crate::collections::NoMemory;
-use crate::rows::{Allow, ArcKind, ArcState, Ruling};
+use crate::rows::{ArcKind, Ruling};
+use base_types::{Allow, ArcState, NoMemory};
 use std::alloc::Global;
 
 /// Whether a kind of arc has the state.

@@ -7,7 +7,7 @@ use Rattle.std.proofs.lemmas.Bool.{eqb-true, le-leb, lt-leb, and_parts}
 use Rattle.gas_units.specs.declared.decimal.Mode.{Mode}
 use Rattle.gas_units.specs.declared.decimal.Mode.TheVariants as mode
 use Rattle.gas_units.specs.Decimals.{next, onward, form_fault, is_sign, is_exponent_mark}
-use Rattle.gas_units.specs.Form.{Run, One, is_point, Blank, Digits, Signed, Exponent, Closing, Pointed, Number, IsDecimal, FormIsDecimal}
+use Rattle.gas_units.specs.DecimalForm.{Run, One, is_point, Blank, Digits, Signed, Exponent, Closing, Pointed, Number, IsDecimal, FormIsDecimal}
 use Rattle.gas_units.proofs.Sizes.{digit_bounds}
 
 -- ---- a text without a fault is of the form

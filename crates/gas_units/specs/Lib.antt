@@ -1,4 +1,4 @@
 pub mod Rounds
 pub mod Decimals
 pub mod Grid
-pub mod Form
+pub mod DecimalForm

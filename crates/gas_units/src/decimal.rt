@@ -3,7 +3,7 @@ ghost use Rattle.std.specs.List.{list_any, filter, before_first, after_first, po
 ghost use Rattle.std.specs.Char.{is_ascii_digit, digit_value};
 ghost use Rattle.std.specs.Str.Parse.{digits_value};
 ghost use Rattle.gas_units.specs.Decimals.{digit_count, next, is_whole, form_fault, FaultsAreFirst, is_exponent_mark, mantissa, exponent, places, power_of, is_too_long, decimal_of, read_decimal};
-ghost use Rattle.gas_units.specs.Form.{FormIsDecimal};
+ghost use Rattle.gas_units.specs.DecimalForm.{FormIsDecimal};
 ghost use Rattle.gas_units.specs.declared.decimal.Mode.TheVariants as mode;
 
 use thiserror::Error;

@@ -5,11 +5,8 @@
 
 mod decimal;
 mod grid;
-mod whole;
+mod roots_and_quotients;
 
 pub use decimal::{Decimal, NumFault, faults_are_first, form_is_decimal, read_decimal};
 pub use grid::{Side, Unit, grid_value_rounds, read_unit, to_grid};
-pub use whole::{ceil_div, floor_div, root_down, root_up};
-
-#[cfg(test)]
-mod tests;
+pub use roots_and_quotients::{ceil_div, floor_div, root_down, root_up};

@@ -2,35 +2,28 @@
 use Rattle.std.proofs.Common.{◌≡◌, zero, suc, inl, inr, refl, sym, ap, ◌∙◌, subst, arith, ℤ, pos, negsuc, ◌+ℤ◌, ◌*ℤ◌, ◌≤ℤ◌, ◌<ℤ◌, neg_ℤ}
 use Rattle.std.proofs.lemmas.Int.{ints}
 use Rattle.integer_laws.proofs.Ring.{linear, add_mul, mul_comm, mul_assoc, mul_left_comm, mul_le_left, mul_le_right, le_of_mul_left, le_or_lt, mul_mul_comm, square_nonneg, square_le, mul_neg, neg_mul, mul_nonneg, mul_pos, mul_zero, one_mul}
+use Rattle.integer_laws.specs.Products.{signed_square}
+use Rattle.integer_laws.proofs.SignedSquares.{signed_forward, signed_back}
 use Rattle.gas_units.specs.Rounds.{IsFloor, IsCeiling}
 use Rattle.interval_core.specs.Enclosures.{Pair, IsPair, IsSmall, Has, IsInside}
-use Rattle.interval_core.specs.Squares.{signed_square, IsFactorRange, HaveSmallSquares, EnclosesSignedSquares, IsSignedSquare, IsLowest, IsHighest}
+use Rattle.interval_core.specs.Squares.{IsFactorRange, HaveSmallSquares, EnclosesSignedSquares, IsSignedSquare, IsLowest, IsHighest}
 use Rattle.interval_core.proofs.EnclosureLemmas.{parts, one_part}
 use Rattle.interval_core.proofs.ProductLemmas.{floor_small, ceiling_small}
 
 -- ---- signed squares
-pub forward : (z : ℤ) → pos 0 ≤ℤ z → signed_square z ≡ z *ℤ z
-forward (pos n) h = refl
-forward (negsuc n) h = absurd (omega (arith, ints))
-
-pub backward : (z : ℤ) → z ≤ℤ pos 0 → signed_square z ≡ neg_ℤ (z *ℤ z)
-backward (pos zero) h = refl
-backward (pos (suc n)) h = absurd (omega (arith, ints))
-backward (negsuc n) h = omega (arith, linear, mul_neg (negsuc n) (pos (suc n)))
-
 turned : (a : ℤ) → neg_ℤ a *ℤ neg_ℤ a ≡ a *ℤ a
 turned a = omega (arith, linear, neg_mul a (neg_ℤ a), mul_neg a a)
 
 signed_up : (z : ℤ) → pos 0 ≤ℤ z → pos 0 ≤ℤ signed_square z
-signed_up z h = omega (arith, linear, forward z h, square_nonneg z)
+signed_up z h = omega (arith, linear, signed_forward z h, square_nonneg z)
 
 signed_down : (z : ℤ) → z ≤ℤ pos 0 → signed_square z ≤ℤ pos 0
-signed_down z h = omega (arith, linear, backward z h, square_nonneg z)
+signed_down z h = omega (arith, linear, signed_back z h, square_nonneg z)
 
 pub ascends : (a b : ℤ) → a ≤ℤ b → signed_square a ≤ℤ signed_square b
 ascends a b h =
     elim (le_or_lt (pos 0) a) [
-      | inl up ↦ let high : pos 0 ≤ℤ b = omega (arith, linear) in omega (arith, linear, forward a up, forward b high, square_le a b up h)
+      | inl up ↦ let high : pos 0 ≤ℤ b = omega (arith, linear) in omega (arith, linear, signed_forward a up, signed_forward b high, square_le a b up h)
       | inr back ↦
           let low : a ≤ℤ pos 0 = omega (arith, linear) in
           elim (le_or_lt (pos 0) b) [
@@ -38,18 +31,18 @@ ascends a b h =
             | inr more ↦
                 let under : b ≤ℤ pos 0 = omega (arith, linear) in
                 let m = square_le (neg_ℤ b) (neg_ℤ a) (omega (arith, linear)) (omega (arith, linear)) in
-                omega (arith, linear, backward a low, backward b under, m, turned a, turned b)
+                omega (arith, linear, signed_back a low, signed_back b under, m, turned a, turned b)
           ]
     ]
 
 pub scaled : (k z : ℤ) → pos 0 ≤ℤ k → signed_square (k *ℤ z) ≡ (k *ℤ k) *ℤ signed_square z
 scaled k z h =
     elim (le_or_lt (pos 0) z) [
-      | inl up ↦ forward (k *ℤ z) (mul_nonneg k z h up) ∙ mul_mul_comm k z k z ∙ ap (λ (x : ℤ). (k *ℤ k) *ℤ x) (sym (forward z up))
+      | inl up ↦ signed_forward (k *ℤ z) (mul_nonneg k z h up) ∙ mul_mul_comm k z k z ∙ ap (λ (x : ℤ). (k *ℤ k) *ℤ x) (sym (signed_forward z up))
       | inr back ↦
           let low : z ≤ℤ pos 0 = omega (arith, linear) in
           let m = mul_le_left k z (pos 0) h low in
-          backward (k *ℤ z) (omega (arith, linear, m, mul_zero k)) ∙ ap neg_ℤ (mul_mul_comm k z k z) ∙ sym (mul_neg (k *ℤ k) (z *ℤ z)) ∙ ap (λ (x : ℤ). (k *ℤ k) *ℤ x) (sym (backward z low))
+          signed_back (k *ℤ z) (omega (arith, linear, m, mul_zero k)) ∙ ap neg_ℤ (mul_mul_comm k z k z) ∙ sym (mul_neg (k *ℤ k) (z *ℤ z)) ∙ ap (λ (x : ℤ). (k *ℤ k) *ℤ x) (sym (signed_back z low))
     ]
 
 -- a factor that isn't positive turns the order
@@ -169,9 +162,9 @@ square_small lo hi x i j s =
 factor_small : (k x c : ℤ) → c ≡ k *ℤ signed_square x → IsSmall (k *ℤ (x *ℤ x)) → IsSmall c
 factor_small k x c e s =
     elim (le_or_lt (pos 0) x) [
-      | inl up ↦ subst IsSmall (sym (e ∙ ap (λ (y : ℤ). k *ℤ y) (forward x up))) s
+      | inl up ↦ subst IsSmall (sym (e ∙ ap (λ (y : ℤ). k *ℤ y) (signed_forward x up))) s
       | inr back ↦
-          let t : c ≡ neg_ℤ (k *ℤ (x *ℤ x)) = e ∙ ap (λ (y : ℤ). k *ℤ y) (backward x (omega (arith, linear))) ∙ mul_neg k (x *ℤ x) in
+          let t : c ≡ neg_ℤ (k *ℤ (x *ℤ x)) = e ∙ ap (λ (y : ℤ). k *ℤ y) (signed_back x (omega (arith, linear))) ∙ mul_neg k (x *ℤ x) in
           omega (arith, linear, t, parts, one_part c, one_part (k *ℤ (x *ℤ x)))
     ]
 
@@ -243,13 +236,13 @@ is_signed_square K lo hi den a r c e w = record { encloses = all_enclosed K lo h
 
 -- ---- the code of one end
 pub lowest_forward : (lo hi x m : ℤ) → pos 0 ≤ℤ x → m ≡ lo *ℤ (x *ℤ x) → IsLowest lo hi x m
-lowest_forward lo hi x m h e = record { forward = λ up. e ∙ ap (λ (y : ℤ). lo *ℤ y) (sym (forward x up)); backward = λ back. absurd (omega (arith, linear)) }
+lowest_forward lo hi x m h e = record { forward = λ up. e ∙ ap (λ (y : ℤ). lo *ℤ y) (sym (signed_forward x up)); backward = λ back. absurd (omega (arith, linear)) }
 
 pub lowest_backward : (lo hi x m : ℤ) → x <ℤ pos 0 → m ≡ neg_ℤ (hi *ℤ (x *ℤ x)) → IsLowest lo hi x m
-lowest_backward lo hi x m h e = record { forward = λ up. absurd (omega (arith, linear)); backward = λ back. e ∙ sym (mul_neg hi (x *ℤ x)) ∙ ap (λ (y : ℤ). hi *ℤ y) (sym (backward x (omega (arith, linear)))) }
+lowest_backward lo hi x m h e = record { forward = λ up. absurd (omega (arith, linear)); backward = λ back. e ∙ sym (mul_neg hi (x *ℤ x)) ∙ ap (λ (y : ℤ). hi *ℤ y) (sym (signed_back x (omega (arith, linear)))) }
 
 pub highest_forward : (lo hi x m : ℤ) → pos 0 ≤ℤ x → m ≡ hi *ℤ (x *ℤ x) → IsHighest lo hi x m
-highest_forward lo hi x m h e = record { forward = λ up. e ∙ ap (λ (y : ℤ). hi *ℤ y) (sym (forward x up)); backward = λ back. absurd (omega (arith, linear)) }
+highest_forward lo hi x m h e = record { forward = λ up. e ∙ ap (λ (y : ℤ). hi *ℤ y) (sym (signed_forward x up)); backward = λ back. absurd (omega (arith, linear)) }
 
 pub highest_backward : (lo hi x m : ℤ) → x <ℤ pos 0 → m ≡ neg_ℤ (lo *ℤ (x *ℤ x)) → IsHighest lo hi x m
-highest_backward lo hi x m h e = record { forward = λ up. absurd (omega (arith, linear)); backward = λ back. e ∙ sym (mul_neg lo (x *ℤ x)) ∙ ap (λ (y : ℤ). lo *ℤ y) (sym (backward x (omega (arith, linear)))) }
+highest_backward lo hi x m h e = record { forward = λ up. absurd (omega (arith, linear)); backward = λ back. e ∙ sym (mul_neg lo (x *ℤ x)) ∙ ap (λ (y : ℤ). lo *ℤ y) (sym (signed_back x (omega (arith, linear)))) }

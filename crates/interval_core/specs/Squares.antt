@@ -1,10 +1,7 @@
 -- The products r * q * |q| of the fractions q of an interval and the factors r of a range.
-use Rattle.std.specs.Prelude.{◌^◌, ◌≡◌, ℤ, pos, ◌*ℤ◌, ◌≤ℤ◌, ◌<ℤ◌, unsigned_abs}
+use Rattle.std.specs.Prelude.{◌^◌, ◌≡◌, ℤ, pos, ◌*ℤ◌, ◌≤ℤ◌, ◌<ℤ◌}
+use Rattle.integer_laws.specs.Products.{signed_square}
 use Rattle.interval_core.specs.Enclosures.{Pair, IsSmall, Has, IsInside, IsDenominator, IsPair}
-
--- z * |z|
-abbrev pub signed_square : ℤ → ℤ
-signed_square z = z *ℤ pos (unsigned_abs z)
 
 -- the ends lo / den and hi / den of a range of factors
 pub record IsFactorRange (lo hi den : ℤ) : Type 0 where

@@ -11,6 +11,3 @@ mod isotony;
 pub use grid::{Grid, Ones, Sixteenths};
 pub use interval::Interval;
 pub use isotony::smaller_operands_give_smaller_results;
-
-#[cfg(test)]
-mod tests;

@@ -11,9 +11,6 @@ ghost use Rattle.link_queue.specs.Numbered.{IsNumbered};
 use std::alloc::{AllocError, Global};
 use std::marker::Model;
 
-#[cfg(test)]
-mod tests;
-
 /// Memory for the slots could not be had. It is tied to nothing else.
 #[derive(Clone, Copy, Debug, PartialEq, Eq)]
 pub struct NoMemory;

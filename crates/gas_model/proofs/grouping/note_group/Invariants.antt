@@ -1,6 +1,7 @@
 use Rattle.std.proofs.Common.{◌≡◌, ◌++◌, take, map}
 use Rattle.std.specs.List.{flat_map}
-use Rattle.gas_model.specs.Rows.{set_key, SameNames}
+use Rattle.gas_model.specs.Rows.{set_key}
+use Rattle.base_types.specs.Names.{SameNames}
 use Rattle.gas_model.proofs.grouping.note_group.Given as goal
 
 abbrev pub invariant-loop-decision : goal.invariant-loop-decision

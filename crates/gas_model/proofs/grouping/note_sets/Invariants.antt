@@ -1,5 +1,6 @@
 use Rattle.std.proofs.Common.{◌++◌, take, map}
-use Rattle.gas_model.specs.Rows.{set_key, SameNames}
+use Rattle.gas_model.specs.Rows.{set_key}
+use Rattle.base_types.specs.Names.{SameNames}
 use Rattle.gas_model.proofs.grouping.note_sets.Given as goal
 
 abbrev pub invariant-loop-set : goal.invariant-loop-set

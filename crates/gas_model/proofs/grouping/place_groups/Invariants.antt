@@ -1,5 +1,6 @@
 use Rattle.std.proofs.Common.{◌≡◌, take, drop, map}
-use Rattle.gas_model.specs.Rows.{text_ids, group_of, group_ids, group_fault, groups_fault, decided_by, first_offence, SameNames}
+use Rattle.gas_model.specs.Rows.{text_ids, group_of, group_ids, group_fault, groups_fault, decided_by, first_offence}
+use Rattle.base_types.specs.Names.{SameNames}
 use Rattle.gas_model.proofs.grouping.place_groups.Given as goal
 
 abbrev pub invariant-loop-group : goal.invariant-loop-group

@@ -1,7 +1,7 @@
 use Rattle.std.proofs.Common.{◌<◌, arith, length, get_or}
 use Rattle.std.proofs.lemmas.List.{length-map, get_or_default}
 use Rattle.std.proofs.lemmas.Option.{slice_get-get_or}
-use Rattle.gas_model.specs.declared.rows.Allow.TheVariants.{Opened}
+use Rattle.base_types.specs.declared.states.Allow.TheVariants.{Opened}
 use Rattle.gas_model.proofs.Ruled.{sets_turn}
 use Rattle.gas_model.proofs.rulings.note_sets.Goals as goal
 

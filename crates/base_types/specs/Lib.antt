@@ -1,0 +1,4 @@
+pub mod Ids
+pub mod Numbers
+pub mod StateWords
+pub mod Names
