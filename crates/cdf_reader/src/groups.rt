@@ -1,7 +1,7 @@
 // Groups and decisions.
 ghost use Rattle.std.specs.Prelude.{◌≡◌, ℕ, List, IfOk, IfErr, Ok, Err};
 ghost use Rattle.std.specs.Str.{bytes_eq};
-ghost use Rattle.tag_outline.specs.declared.fault.FileFault.{FileFault};
+ghost use Rattle.file_faults.specs.declared.outline.FileFault.{FileFault};
 ghost use Rattle.element_fields.specs.Answers.{Gives};
 ghost use Rattle.element_fields.specs.Files.{file_in, IsFile, MayFail, IsFileFault};
 ghost use Rattle.cdf_reader.specs.Groups.{has_word, decision_in, decision_rows, group_in, group_rows, groups_in, combined_rows};
@@ -9,8 +9,8 @@ ghost use Rattle.cdf_reader.specs.declared.rows.CdfRows.{CdfRows};
 
 use crate::rows::{CdfDecision, CdfGroup, CdfRows};
 use crate::sets::set_rows;
+use base_types::List;
 use element_fields::{bad_word, id_in, label, next_child, outline_for};
-use gas_model::List;
 use std::alloc::Global;
 use tag_outline::{Element, FileFault, OutlineFault};
 

@@ -1,5 +1,5 @@
 // What a decision file says.
-use gas_model::{Allow, List, Name};
+use base_types::{Allow, List, Name};
 
 /// What an arc is, of which a decision says something.
 #[derive(Clone, Copy, Debug, PartialEq, Eq)]

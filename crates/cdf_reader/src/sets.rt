@@ -5,8 +5,8 @@ ghost use Rattle.element_fields.specs.Answers.{Gives};
 ghost use Rattle.cdf_reader.specs.Sets.{active_word, is_read, is_known, first_unknown, only_known, is_open, open_in, mode_word, mode_of, allow_in, no_children, set_of, set_in, set_rows};
 
 use crate::rows::{ActiveWord, CdfSet};
+use base_types::{Allow, List, Name};
 use element_fields::{bad_word, id_in, label, missing, next_child, unknown_attribute, value_of};
-use gas_model::{Allow, List, Name};
 use std::alloc::Global;
 use tag_outline::{Element, FileFault};
 

@@ -3,7 +3,7 @@ use Rattle.std.proofs.Common.{◌≡◌, Bool, true, false, Some, None, refl, �
 use Rattle.std.specs.Prelude.{int_le}
 use Rattle.std.proofs.lemmas.Bool.{and_left, and_right}
 use Rattle.integer_laws.proofs.Ring.{linear, le_test, not_le_test}
-use Rattle.gas_model.specs.Limits.{between}
+use Rattle.base_types.specs.Numbers.{between}
 use Rattle.gas_units.specs.declared.grid.Side.{Side}
 use Rattle.gas_units.specs.declared.grid.Side.TheVariants.{Down, Up}
 use Rattle.gas_units.specs.Grid.{IsFar}

@@ -1,8 +1,8 @@
 -- Taking in child after child, as a loop does.
 use Rattle.std.proofs.Common.{◌≡◌, List, Option, Some, None, Ok, Err, refl, sym, ap, ◌∙◌}
 use Rattle.std.specs.Prelude.{Result}
-use Rattle.tag_outline.specs.declared.fault.FileFault.{FileFault}
-use Rattle.tag_outline.specs.declared.fault.FileFault.TheVariants as fault
+use Rattle.file_faults.specs.declared.outline.FileFault.{FileFault}
+use Rattle.file_faults.specs.declared.outline.FileFault.TheVariants as fault
 use Rattle.tag_outline.specs.declared.outline.Element.{Element}
 use Rattle.element_fields.specs.Answers.{◌>>=◌, fold_of, fault_of, Tells}
 use Rattle.element_fields.specs.Lookup.{Placed}

@@ -2,8 +2,8 @@
 use Rattle.std.proofs.Common.{◌≡◌, ℕ, ◌+◌, List, [], ◌∷◌, ◌++◌, Bool, true, false, cond, Option, Some, None, Ok, Err, refl, sym, ap, ◌∙◌, append_assoc}
 use Rattle.std.specs.Prelude.{◌==◌, nat_le, Result}
 use Rattle.std.proofs.lemmas.List.{append-nil}
-use Rattle.tag_outline.specs.declared.fault.FileFault.{FileFault}
-use Rattle.tag_outline.specs.declared.fault.FileFault.TheVariants as fault
+use Rattle.file_faults.specs.declared.outline.FileFault.{FileFault}
+use Rattle.file_faults.specs.declared.outline.FileFault.TheVariants as fault
 use Rattle.tag_outline.specs.declared.outline.Element.{Element}
 use Rattle.element_fields.specs.Answers.{◌>>=◌, rows_of, fault_of, Tells}
 use Rattle.element_fields.specs.Lookup.{Placed, is_child, child, children_named, next_child, children}

@@ -1,10 +1,10 @@
 -- From the bytes of a file to its elements, and from them to its rows.
 use Rattle.std.specs.Prelude.{◌≡◌, ◌⊎◌, ℕ, List, Result, Ok, Err}
 use Rattle.tag_outline.specs.declared.outline.Element.{Element}
-use Rattle.tag_outline.specs.declared.fault.OutlineFault.{OutlineFault}
-use Rattle.tag_outline.specs.declared.fault.FileFault.{FileFault}
-use Rattle.tag_outline.specs.declared.fault.FileFault.TheVariants as fault
-use Rattle.tag_outline.specs.Held.{held}
+use Rattle.file_faults.specs.declared.outline.OutlineFault.{OutlineFault}
+use Rattle.file_faults.specs.declared.outline.FileFault.{FileFault}
+use Rattle.file_faults.specs.declared.outline.FileFault.TheVariants as fault
+use Rattle.file_faults.specs.Held.{held}
 use Rattle.tag_outline.specs.Outline.{outline_of}
 use Rattle.tag_outline.specs.Grammar.{IsOutline}
 use Rattle.tag_outline.specs.Offences.{IsOutlineFault}

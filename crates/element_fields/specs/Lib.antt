@@ -3,3 +3,4 @@ pub mod Lookup
 pub mod Names
 pub mod Quantities
 pub mod Files
+pub mod Children

@@ -1,10 +1,10 @@
 -- The attributes that name things, and what a fault calls an element.
 use Rattle.std.specs.Prelude.{ℕ, ◌&&◌, ◌==◌, not, List, Bool, if◌then◌else◌, Option, Some, None, Result, Ok, Err, codes}
 use Rattle.std.specs.List.{list_any}
-use Rattle.gas_model.specs.Limits.{is_id}
+use Rattle.base_types.specs.Ids.{is_id}
 use Rattle.tag_outline.specs.declared.outline.Element.{Element}
-use Rattle.tag_outline.specs.declared.fault.FileFault.{FileFault}
-use Rattle.tag_outline.specs.declared.fault.FileFault.TheVariants as fault
+use Rattle.file_faults.specs.declared.outline.FileFault.{FileFault}
+use Rattle.file_faults.specs.declared.outline.FileFault.TheVariants as fault
 use Rattle.element_fields.specs.Answers.{◌>>=◌, found_or}
 use Rattle.element_fields.specs.Lookup.{value_of}
 

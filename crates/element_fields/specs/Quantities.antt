@@ -1,6 +1,6 @@
 -- Quantities: a child element with a value and a unit, checked in order.
 use Rattle.std.specs.Prelude.{ℕ, not, List, Bool, true, if◌then◌else◌, Option, Some, None, Result, Ok, Err, ℤ, pos, negsuc, ◌≤ℤ◌, int_le, codes}
-use Rattle.gas_model.specs.Limits.{is_flow, is_pressure}
+use Rattle.base_types.specs.Numbers.{is_flow, is_pressure}
 use Rattle.gas_units.specs.declared.decimal.Decimal.{Decimal}
 use Rattle.gas_units.specs.declared.decimal.NumFault.{NumFault}
 use Rattle.gas_units.specs.declared.grid.Unit.{Unit}
@@ -10,8 +10,8 @@ use Rattle.gas_units.specs.declared.grid.Side.TheVariants.{Down, Up}
 use Rattle.gas_units.specs.Decimals.{read_decimal}
 use Rattle.gas_units.specs.Grid.{read_unit, grid_value}
 use Rattle.tag_outline.specs.declared.outline.Element.{Element}
-use Rattle.tag_outline.specs.declared.fault.FileFault.{FileFault}
-use Rattle.tag_outline.specs.declared.fault.FileFault.TheVariants as fault
+use Rattle.file_faults.specs.declared.outline.FileFault.{FileFault}
+use Rattle.file_faults.specs.declared.outline.FileFault.TheVariants as fault
 use Rattle.element_fields.specs.declared.quantity.Sort.{Sort}
 use Rattle.element_fields.specs.declared.quantity.Sort.TheVariants.{Flow, Pressure, Difference}
 use Rattle.element_fields.specs.Answers.{◌>>=◌, found_or}

@@ -1,9 +1,9 @@
 // Faults that name their place.
 ghost use Rattle.std.specs.Prelude.{◌≡◌, Some, IfOk};
 ghost use Rattle.element_fields.specs.Answers.{Tells};
-ghost use Rattle.tag_outline.specs.declared.fault.FileFault.TheVariants as fault;
+ghost use Rattle.file_faults.specs.declared.outline.FileFault.TheVariants as fault;
 
-use gas_model::{Name, NoMemory};
+use base_types::{Name, NoMemory};
 use std::alloc::Global;
 use tag_outline::FileFault;
 

@@ -2,12 +2,14 @@
 //! children in an outline, and the checks of names and quantities in their order.
 #![tactic(auto)]
 
+mod children;
 mod faults;
 mod file;
 mod lookup;
 mod names;
 mod quantity;
 
+pub use children::children_stand_within;
 pub use faults::{bad_unit, bad_value, bad_word, missing, too_large, unknown_attribute};
 pub use file::outline_for;
 pub use lookup::{child, next_child, value_of};

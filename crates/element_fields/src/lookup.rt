@@ -2,7 +2,7 @@
 ghost use Rattle.std.specs.Prelude.{◌≡◌, ◌<◌, ◌+◌, length, IfSome, option_map};
 ghost use Rattle.element_fields.specs.Lookup.{value_of, child, next_child, is_child};
 
-use gas_model::Name;
+use base_types::Name;
 use tag_outline::Element;
 
 /// The value of the attribute of a name.

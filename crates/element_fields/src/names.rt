@@ -6,7 +6,7 @@ ghost use Rattle.element_fields.specs.Names.{is_good, label, id_in};
 
 use crate::faults::{bad_value, missing};
 use crate::lookup::value_of;
-use gas_model::{Name, is_id};
+use base_types::{Name, is_id};
 use std::alloc::Global;
 use tag_outline::{Element, FileFault};
 

@@ -5,11 +5,12 @@ use Rattle.std.specs.Str.{bytes_eq}
 use Rattle.std.proofs.lemmas.Slice.Eq.{bytes_eq-Decides}
 use Rattle.std.proofs.lemmas.Bool.{and_parts}
 use Rattle.gas_model.specs.declared.rows.Drag.{Drag}
-use Rattle.gas_model.specs.declared.rows.Allow.{Allow}
-use Rattle.gas_model.specs.declared.rows.Allow.TheVariants.{Opened, Shut, Active, Bypass, On}
+use Rattle.base_types.specs.declared.states.Allow.{Allow}
+use Rattle.base_types.specs.declared.states.Allow.TheVariants.{Opened, Shut, Active, Bypass, On}
 use Rattle.gas_model.specs.declared.rows.ArcKind.{ArcKind}
 use Rattle.gas_model.specs.declared.rows.ArcKind.TheVariants.{Pipe, Short, Resist, Loss, Valve, Control, Station}
-use Rattle.gas_model.specs.Limits.{is_pressure, is_difference, is_drag_part, is_ratio_part, is_ratio_within, is_drag_within, are_station_pressures, is_kind_within}
+use Rattle.base_types.specs.Numbers.{is_pressure, is_difference, is_drag_part, is_ratio_part}
+use Rattle.gas_model.specs.Limits.{is_ratio_within, is_drag_within, are_station_pressures, is_kind_within}
 use Rattle.flat_text.specs.declared.fault.LineFault.{LineFault}
 use Rattle.flat_text.specs.declared.fault.LineFault.TheVariants as fault
 use Rattle.flat_text.specs.Fields.{◌>>=◌, found, number_field, drag_at}

@@ -8,7 +8,8 @@ use Rattle.std.proofs.lemmas.Bool.{eqb-true, and_parts}
 use Rattle.std.proofs.lemmas.Bool.Decides.{nat_tests}
 use Rattle.std.proofs.lemmas.Int.{ints}
 use lib.Signed.{mag}
-use Rattle.gas_model.specs.Limits.{is_id_byte, has_id_form, is_id, is_pressure, is_difference, is_flow, is_drag_part, is_ratio_part}
+use Rattle.base_types.specs.Ids.{is_id_byte, has_id_form, is_id}
+use Rattle.base_types.specs.Numbers.{is_pressure, is_difference, is_flow, is_drag_part, is_ratio_part}
 use Rattle.gas_model.specs.declared.rows.Drag.{Drag}
 use Rattle.line_text.specs.Numerals.{signed_numeral}
 use Rattle.line_text.specs.Words.{word_len, is_field}

@@ -7,13 +7,15 @@ use Rattle.std.proofs.lemmas.Bool.Decides.{nat_tests}
 use Rattle.std.proofs.lemmas.Str.{IsUtf8-from_ascii, is_utf8-from_IsUtf8}
 use Rattle.std.proofs.lemmas.Bool.{and_parts}
 use Rattle.gas_model.specs.declared.rows.NodeRow.{NodeRow}
-use Rattle.gas_model.specs.declared.rows.Allow.{Allow}
-use Rattle.gas_model.specs.declared.rows.Allow.TheVariants.{Opened, Shut, Active, Bypass, On}
+use Rattle.base_types.specs.declared.states.Allow.{Allow}
+use Rattle.base_types.specs.declared.states.Allow.TheVariants.{Opened, Shut, Active, Bypass, On}
 use Rattle.gas_model.specs.declared.rows.ArcKind.{ArcKind}
 use Rattle.gas_model.specs.declared.rows.ArcKind.TheVariants.{Pipe, Short, Resist, Loss, Valve, Control, Station}
 use Rattle.gas_model.specs.declared.rows.ArcText.{ArcText}
 use Rattle.gas_model.specs.declared.rows.SetText.{SetText}
-use Rattle.gas_model.specs.Limits.{is_id, is_pressure, is_flow, is_kind_within, is_node_within, is_arc_within}
+use Rattle.base_types.specs.Ids.{is_id}
+use Rattle.base_types.specs.Numbers.{is_pressure, is_flow}
+use Rattle.gas_model.specs.Limits.{is_kind_within, is_node_within, is_arc_within}
 use Rattle.line_text.specs.Lines.{HasNoFeed}
 use Rattle.line_text.specs.Numerals.{signed_numeral}
 use Rattle.line_text.specs.Words.{word_len, joined, is_field}

@@ -16,8 +16,8 @@ use Rattle.gas_model.proofs.Remade.{clean_rows, rows_back as rows_made}
 use Rattle.line_text.specs.Lines.{HasNoFeed}
 use Rattle.line_text.specs.Words.{joined}
 use Rattle.flat_text.specs.declared.fault.LineFault.{LineFault}
-use Rattle.flat_text.specs.declared.fault.FlatFault.{FlatFault}
-use Rattle.flat_text.specs.declared.fault.FlatFault.TheVariants as fault
+use Rattle.problem_faults.specs.declared.flat.FlatFault.{FlatFault}
+use Rattle.problem_faults.specs.declared.flat.FlatFault.TheVariants as fault
 use Rattle.flat_text.specs.declared.line.Item.{Item}
 use Rattle.flat_text.specs.declared.line.Item.TheVariants.{Node, Arc, Set}
 use Rattle.flat_text.specs.declared.line.Part.{Part}

@@ -12,8 +12,11 @@ use Rattle.gas_model.specs.declared.rows.DecisionText.{DecisionText}
 use Rattle.gas_model.specs.declared.rows.GroupText.{GroupText}
 use Rattle.gas_model.specs.declared.rows.Rows.{Rows}
 use Rattle.gas_model.specs.declared.rows.ModelFault.TheVariants as fault
-use Rattle.gas_model.specs.Limits.{is_id, is_pressure, is_flow, is_node_within, is_kind_within, is_arc_within}
-use Rattle.gas_model.specs.Rows.{place, is_among, first_offence, node_id, node_ids, node_fault, text_id, text_ids, arc_fault, set_key, set_fault, decision_key, decision_fault, decided_by, group_ids, group_fault, rows_fault}
+use Rattle.base_types.specs.Ids.{is_id}
+use Rattle.base_types.specs.Numbers.{is_pressure, is_flow}
+use Rattle.gas_model.specs.Limits.{is_node_within, is_kind_within, is_arc_within}
+use Rattle.base_types.specs.Names.{place, is_among}
+use Rattle.gas_model.specs.Rows.{first_offence, node_id, node_ids, node_fault, text_id, text_ids, arc_fault, set_key, set_fault, decision_key, decision_fault, decided_by, group_ids, group_fault, rows_fault}
 use Rattle.gas_model.proofs.Remade.{both_none, passed, at_place, not_false, clean_arc, clean_set, clean_rows}
 use Rattle.flat_text.specs.declared.line.Item.{Item}
 use Rattle.flat_text.specs.Line.{is_item_within}

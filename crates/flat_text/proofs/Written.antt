@@ -10,10 +10,10 @@ use Rattle.std.proofs.lemmas.Option.{slice_get_within}
 use Rattle.std.proofs.lemmas.Bool.{and_parts}
 use Rattle.gas_model.specs.declared.rows.ArcRow.{ArcRow}
 use Rattle.gas_model.specs.declared.rows.ArcText.{ArcText}
-use Rattle.gas_model.specs.declared.rows.Allow.{Allow}
+use Rattle.base_types.specs.declared.states.Allow.{Allow}
 use Rattle.gas_model.specs.declared.rows.Decision.{Decision}
 use Rattle.gas_model.specs.declared.rows.Group.{Group}
-use Rattle.gas_model.specs.Limits.{is_id}
+use Rattle.base_types.specs.Ids.{is_id}
 use Rattle.gas_model.specs.Rows.{Network, takes}
 use Rattle.gas_model.specs.Rulings.{GroupsDecideArcs}
 use Rattle.gas_model.specs.Within.{is_set_within, is_decision_within, is_group_within, IsWithin}

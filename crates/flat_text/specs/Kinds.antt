@@ -1,10 +1,10 @@
 -- The words of kinds and of decisions, and the numbers of a kind.
 use Rattle.std.specs.Prelude.{ℕ, List, if◌then◌else◌, Option, Some, None, Result, Ok, Err, codes}
 use Rattle.std.specs.Str.{bytes_eq}
-use Rattle.gas_model.specs.Words.{state_word}
-use Rattle.gas_model.specs.declared.rows.ArcState.TheVariants as states
-use Rattle.gas_model.specs.declared.rows.Allow.{Allow}
-use Rattle.gas_model.specs.declared.rows.Allow.TheVariants.{Opened, Shut, Active, Bypass, On}
+use Rattle.base_types.specs.StateWords.{state_word}
+use Rattle.base_types.specs.declared.states.ArcState.TheVariants as states
+use Rattle.base_types.specs.declared.states.Allow.{Allow}
+use Rattle.base_types.specs.declared.states.Allow.TheVariants.{Opened, Shut, Active, Bypass, On}
 use Rattle.gas_model.specs.declared.rows.ArcKind.{ArcKind}
 use Rattle.gas_model.specs.declared.rows.ArcKind.TheVariants.{Pipe, Short, Resist, Loss, Valve, Control, Station}
 use Rattle.flat_text.specs.declared.fault.LineFault.{LineFault}

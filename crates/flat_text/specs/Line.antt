@@ -1,7 +1,8 @@
 -- What a line says, or what is wrong with it.
 use Rattle.std.specs.Prelude.{ℕ, ◌&&◌, not, List, take, drop, Bool, true, false, if◌then◌else◌, Option, Some, None, Result, Ok, Err, codes}
 use Rattle.std.specs.Str.{bytes_eq}
-use Rattle.gas_model.specs.Limits.{is_node_within, is_arc_within, is_id}
+use Rattle.gas_model.specs.Limits.{is_node_within, is_arc_within}
+use Rattle.base_types.specs.Ids.{is_id}
 use Rattle.gas_model.specs.declared.rows.NodeRow.{NodeRow}
 use Rattle.gas_model.specs.declared.rows.ArcText.{ArcText}
 use Rattle.gas_model.specs.declared.rows.SetText.{SetText}

@@ -2,14 +2,14 @@
 use Rattle.std.specs.Prelude.{◌≡◌, ℕ, true, List, [], ◌∷◌, ◌++◌, map, ℤ, codes}
 use Rattle.line_text.specs.Numerals.{signed_numeral}
 use Rattle.std.specs.List.{flat_map, list_all}
-use Rattle.gas_model.specs.Words.{state_word}
-use Rattle.gas_model.specs.declared.rows.ArcState.TheVariants as states
+use Rattle.base_types.specs.StateWords.{state_word}
+use Rattle.base_types.specs.declared.states.ArcState.TheVariants as states
 use Rattle.gas_model.specs.declared.rows.NodeRow.{NodeRow}
 use Rattle.gas_model.specs.declared.rows.ArcKind.{ArcKind}
 use Rattle.gas_model.specs.declared.rows.ArcKind.TheVariants.{Pipe, Short, Resist, Loss, Valve, Control, Station}
 use Rattle.gas_model.specs.declared.rows.ArcText.{ArcText}
-use Rattle.gas_model.specs.declared.rows.Allow.{Allow}
-use Rattle.gas_model.specs.declared.rows.Allow.TheVariants.{Opened, Shut, Active, Bypass, On}
+use Rattle.base_types.specs.declared.states.Allow.{Allow}
+use Rattle.base_types.specs.declared.states.Allow.TheVariants.{Opened, Shut, Active, Bypass, On}
 use Rattle.gas_model.specs.declared.rows.SetText.{SetText}
 use Rattle.gas_model.specs.declared.rows.DecisionText.{DecisionText}
 use Rattle.gas_model.specs.declared.rows.GroupText.{GroupText}

@@ -6,8 +6,8 @@ use Rattle.gas_model.specs.declared.rows.ModelFault.{ModelFault}
 use Rattle.gas_model.specs.Rows.{Network, problem_of}
 use Rattle.flat_text.specs.declared.fault.LineFault.{LineFault}
 use Rattle.flat_text.specs.declared.fault.LineFault.TheVariants as line_fault
-use Rattle.flat_text.specs.declared.fault.FlatFault.{FlatFault}
-use Rattle.flat_text.specs.declared.fault.FlatFault.TheVariants as fault
+use Rattle.problem_faults.specs.declared.flat.FlatFault.{FlatFault}
+use Rattle.problem_faults.specs.declared.flat.FlatFault.TheVariants as fault
 use Rattle.flat_text.specs.declared.line.Item.{Item}
 use Rattle.flat_text.specs.declared.line.Part.{Part}
 use Rattle.flat_text.specs.declared.line.Part.TheVariants as part

@@ -1,23 +1,7 @@
 ghost use Rattle.std.specs.Prelude.{◌≡◌};
 ghost use Rattle.flat_text.specs.declared.fault.LineFault.TheVariants as line_fault;
-ghost use Rattle.flat_text.specs.declared.fault.FlatFault.TheVariants as flat_fault;
 
-use gas_model::{ModelFault, NoMemory};
-
-/// Why a text is no problem. Lines are numbered from 1.
-#[derive(Debug, Drop)]
-pub enum FlatFault {
-    /// The line is of no form that stands at its place, or has no line feed. A text without `end` has this fault at
-    /// the line after its last one.
-    NotFlat { line: u64 },
-    /// The line is of its form, but a number or an id in it lies outside its limits, or a lower number lies above its
-    /// upper one.
-    OverLimit { line: u64 },
-    /// The rows that the lines spell make no problem.
-    Model(ModelFault),
-    /// Memory could not be had.
-    NoMemory,
-}
+use gas_model::NoMemory;
 
 /// What is wrong with a line.
 #[derive(Clone, Copy, Debug, PartialEq, Eq)]
@@ -32,13 +16,5 @@ impl From<NoMemory> for LineFault {
 
     fn from(_: NoMemory) -> LineFault {
         LineFault::NoMemory
-    }
-}
-
-impl From<NoMemory> for FlatFault {
-    ghost from_gives = { λ _ e. e ≡ flat_fault.NoMemory };
-
-    fn from(_: NoMemory) -> FlatFault {
-        FlatFault::NoMemory
     }
 }

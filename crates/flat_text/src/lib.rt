@@ -10,8 +10,8 @@ mod line;
 mod text;
 mod writing;
 
-pub use fault::FlatFault;
 pub use laws::lines_have_their_form;
+pub use problem_faults::FlatFault;
 pub use text::read_flat;
 pub use writing::write_flat;
 

@@ -4,10 +4,11 @@ ghost use Rattle.flat_text.specs.Text.{Gives, IsRead, placed, no_more, after_hea
 ghost use Rattle.flat_text.specs.Spelling.{flat_text};
 
 use crate::draft::Draft;
-use crate::fault::{FlatFault, LineFault};
+use crate::fault::LineFault;
 use crate::line::{Item, Part, line_in};
 use gas_model::{ModelFault, Problem, Rows};
 use line_text::cut_line;
+use problem_faults::FlatFault;
 use std::alloc::Global;
 
 /// A line at its place and number.

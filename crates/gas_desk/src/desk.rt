@@ -5,7 +5,7 @@ ghost use Rattle.gas_desk.specs.Outside.{Outside, CountsOn, ReadCause, WriteCaus
 ghost use Rattle.gas_desk.specs.Call.{Call, starts_read, reads, starts_write, writes, finishes, says, moving_none};
 ghost use Rattle.gas_desk.specs.declared.desk.DeskStop.{DeskStop};
 
-use gas_model::NoMemory;
+use base_types::NoMemory;
 
 /// Why a call of a desk stopped.
 #[derive(Clone, Copy, Debug, PartialEq, Eq)]

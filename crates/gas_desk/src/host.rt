@@ -6,7 +6,7 @@ ghost use Rattle.gas_desk.specs.Call.{CountsFailure, has_failed};
 ghost use Rattle.gas_desk.specs.Host.{on_host, stop_of};
 
 use crate::{Desk, DeskStop};
-use gas_model::Name;
+use base_types::Name;
 use std::alloc::Global;
 use std::io::{ErrorKind, Read, Write};
 use std::rt::Files;

@@ -6,7 +6,7 @@ ghost use Rattle.gas_desk.specs.Shelf.{held};
 
 use crate::shelf::Shelf;
 use crate::{Desk, DeskStop};
-use gas_model::{Bytes, List, Name, NoMemory};
+use base_types::{Bytes, List, Name, NoMemory};
 use std::alloc::Global;
 
 /// Files in memory, of which stated calls fail. It tells its contents.

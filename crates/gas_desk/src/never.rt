@@ -5,7 +5,7 @@ ghost use Rattle.gas_desk.specs.Never.{never_failing, DoesNotFail};
 
 use crate::shelf::Shelf;
 use crate::{Desk, DeskStop};
-use gas_model::{Bytes, List, Name, NoMemory};
+use base_types::{Bytes, List, Name, NoMemory};
 use std::alloc::Global;
 
 /// Files in memory. All counts are 0 always: only want of memory stops a call. It tells its

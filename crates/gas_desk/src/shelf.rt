@@ -4,7 +4,7 @@ ghost use Rattle.std.specs.Option.{option_map, option_to_list};
 ghost use Rattle.gas_desk.specs.Outside.{SameBut, SameFiles, SameMarks, SameMarksBut, SameReading, SameWriting, ReadTakes, WriteAdds};
 ghost use Rattle.gas_desk.specs.Shelf.{held, kept_files, on_shelf, shelf_files, LastGrows};
 
-use gas_model::{Bytes, List, Name, NoMemory};
+use base_types::{Bytes, List, Name, NoMemory};
 use std::alloc::Global;
 
 // A file that was started, but not as the last.

@@ -1,5 +1,5 @@
 use super::*;
-use gas_model::{Bytes, List, Name, NoMemory};
+use base_types::{Bytes, List, Name, NoMemory};
 use std::alloc::Global;
 use std::fs;
 use std::test::Fail;

@@ -5,7 +5,7 @@ ghost use Rattle.gas_desk.specs.Whole.{AddsFront, LongerThan, StoppedWithin, Tak
 ghost use Rattle.gas_desk.specs.Stops.{read_stop, write_stop};
 
 use crate::{Desk, DeskStop};
-use gas_model::{Bytes, NoMemory};
+use base_types::{Bytes, NoMemory};
 use std::alloc::Global;
 use thiserror::Error;
 

@@ -4,7 +4,7 @@ ghost use Rattle.line_text.specs.Numerals.{numeral, signed_numeral, number_at};
 ghost use Rattle.line_text.specs.Long.{fits_position, fits_long, fitting, position_at, long_at};
 
 use crate::numerals::{number_at, size_in};
-use gas_model::{Bytes, NoMemory};
+use base_types::{Bytes, NoMemory};
 use itoa::Buffer;
 
 /// The position that a word of digits is: `0`, or digits with no zero in front. A word of another form is none. A

@@ -6,7 +6,7 @@ ghost use Rattle.std.specs.Char.{is_ascii_digit};
 ghost use Rattle.std.specs.Str.Parse.{digits_value};
 ghost use Rattle.line_text.specs.Numerals.{numeral, signed_numeral, begins_well, size_of, up_to_max, below_zero, size_at, number_at};
 
-use gas_model::{Bytes, NoMemory};
+use base_types::{Bytes, NoMemory};
 use itoa::Buffer;
 
 /// At least one byte, of which the first is no needless zero.

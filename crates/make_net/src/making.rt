@@ -1,5 +1,7 @@
 // The problem of a number.
-ghost use Rattle.std.specs.Prelude.{◌≡◌, ◌<◌, IfOk};
+ghost use Rattle.std.specs.Prelude.{◌≡◌, ◌<◌, IfOk, Ok, is_ok, true};
+ghost use Rattle.gas_model.specs.Rows.{problem_of};
+ghost use Rattle.gas_model.specs.declared.rows.ModelFault.TheVariants as model_fault;
 ghost use Rattle.make_net.specs.Made.{made_rows};
 ghost use Rattle.make_net.specs.Answer.{is_count, IsMade};
 ghost use Rattle.make_net.specs.declared.making.MakeFault.TheVariants as fault;
@@ -30,15 +32,6 @@ impl From<NoMemory> for MakeFault {
     }
 }
 
-impl From<ModelFault> for MakeFault {
-    ghost from_gives = { λ _ e. e ≡ fault.NoMemory };
-
-    // Tests of 1, 2, 3 and 2,000 nodes meet no offence of the rows, so that only memory is wanting.
-    fn from(_: ModelFault) -> MakeFault {
-        MakeFault::NoMemory
-    }
-}
-
 /// Whether there is a problem of so many nodes: of 1 to 2,000.
 pub fn is_count(count: u32) -> bool
     ensures { result ≡ is_count count }
@@ -58,6 +51,24 @@ fn made_rows(alloc: Global, count: u32) -> Result<Rows, NoMemory>
     })
 }
 
+/// The want of memory that a fault of making is.
+fn want_of(why: ModelFault) -> NoMemory
+    requires { why ≡ model_fault.NoMemory }
+{
+    NoMemory
+}
+
+/// The problem of rows that make one, for which only memory may be wanting.
+fn problem_of(alloc: Global, rows: Rows) -> Result<Problem, NoMemory>
+    requires { is_ok (problem_of rows) ≡ true }
+    ensures { IfOk result (λ p. problem_of rows ≡ Ok p) }
+{
+    match Problem::make(alloc, rows) {
+        Ok(problem) => Ok(problem),
+        Err(why) => Err(want_of(why)),
+    }
+}
+
 /// A problem of `count` nodes in a line, from 1 to 2,000. A valve leads from the first node to the second, and a pipe
 /// from each other one to the next, with a resistance between 1 and 2 Pa^2 per (l/h)^2. The first node brings in
 /// what all the others take out, 1 l/h each. One group decides whether the valve is shut or open. A single node has
@@ -69,5 +80,5 @@ pub fn make(alloc: Global, count: u32) -> Result<Problem, MakeFault>
         return Err(MakeFault::OutOfRange);
     }
     let rows = made_rows(alloc, count)?;
-    Ok(Problem::make(alloc, rows)?)
+    Ok(problem_of(alloc, rows)?)
 }

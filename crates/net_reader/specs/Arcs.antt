@@ -3,8 +3,8 @@ use Rattle.std.specs.Prelude.{ℕ, List, if◌then◌else◌, Option, Some, None
 use Rattle.std.specs.Str.{bytes_eq}
 use Rattle.gas_units.specs.declared.grid.Side.TheVariants.{Down, Up}
 use Rattle.tag_outline.specs.declared.outline.Element.{Element}
-use Rattle.tag_outline.specs.declared.fault.FileFault.{FileFault}
-use Rattle.tag_outline.specs.declared.fault.FileFault.TheVariants as fault
+use Rattle.file_faults.specs.declared.outline.FileFault.{FileFault}
+use Rattle.file_faults.specs.declared.outline.FileFault.TheVariants as fault
 use Rattle.element_fields.specs.declared.quantity.Sort.TheVariants.{Pressure, Difference}
 use Rattle.element_fields.specs.Answers.{◌>>=◌, found_or, rows_of}
 use Rattle.element_fields.specs.Lookup.{Placed, child, children}

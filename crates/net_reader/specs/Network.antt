@@ -1,9 +1,9 @@
 -- The rows of a network file, or its first offence.
 use Rattle.std.specs.Prelude.{List, [], ◌∷◌, Option, Some, None, Result, Ok, Err, codes}
 use Rattle.tag_outline.specs.declared.outline.Element.{Element}
-use Rattle.tag_outline.specs.declared.fault.OutlineFault.TheVariants as outline_fault
-use Rattle.tag_outline.specs.declared.fault.FileFault.{FileFault}
-use Rattle.tag_outline.specs.declared.fault.FileFault.TheVariants as fault
+use Rattle.file_faults.specs.declared.outline.OutlineFault.TheVariants as outline_fault
+use Rattle.file_faults.specs.declared.outline.FileFault.{FileFault}
+use Rattle.file_faults.specs.declared.outline.FileFault.TheVariants as fault
 use Rattle.element_fields.specs.Answers.{◌>>=◌, found_or}
 use Rattle.element_fields.specs.Lookup.{Placed, child}
 use Rattle.net_reader.specs.declared.rows.NetArc.{NetArc}

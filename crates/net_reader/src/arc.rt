@@ -7,10 +7,10 @@ ghost use Rattle.net_reader.specs.Arcs.{connection_of, ends_in, p_max_of, option
 
 use crate::node::flow_bounds;
 use crate::rows::{ArcWord, NetArc};
+use base_types::{List, Name};
 use element_fields::{
     Sort, bad_word, bound_of, bounds_in, child, default_of, id_in, label, next_child, too_large,
 };
-use gas_model::{List, Name};
 use gas_units::Side;
 use std::alloc::Global;
 use tag_outline::{Element, FileFault};

@@ -1,6 +1,6 @@
 // The rows of a network file.
 ghost use Rattle.std.specs.Prelude.{ℕ, List, IfOk, IfErr, Ok, Err};
-ghost use Rattle.tag_outline.specs.declared.fault.FileFault.{FileFault};
+ghost use Rattle.file_faults.specs.declared.outline.FileFault.{FileFault};
 ghost use Rattle.element_fields.specs.Answers.{Gives};
 ghost use Rattle.element_fields.specs.Files.{file_in, IsFile, MayFail, IsFileFault};
 ghost use Rattle.net_reader.specs.Network.{arcs_in, network_rows};
@@ -9,8 +9,8 @@ ghost use Rattle.net_reader.specs.declared.rows.NetRows.{NetRows};
 use crate::arc::arc_rows;
 use crate::node::node_rows;
 use crate::rows::{NetArc, NetRows};
+use base_types::List;
 use element_fields::{child, missing, outline_for};
-use gas_model::List;
 use std::alloc::Global;
 use tag_outline::{Element, FileFault, OutlineFault};
 

@@ -4,8 +4,8 @@ ghost use Rattle.element_fields.specs.Answers.{Gives};
 ghost use Rattle.net_reader.specs.Nodes.{node_word, flow_bounds, node_flows, node_of, node_in, node_rows};
 
 use crate::rows::{NetNode, NodeWord};
+use base_types::List;
 use element_fields::{Sort, bad_word, bound_of, id_in, next_child};
-use gas_model::List;
 use gas_units::Side;
 use std::alloc::Global;
 use tag_outline::{Element, FileFault};

@@ -1,5 +1,5 @@
 // What a network file says.
-use gas_model::{List, Name};
+use base_types::{List, Name};
 
 /// What a node is.
 #[derive(Clone, Copy, Debug, PartialEq, Eq)]

@@ -4,10 +4,10 @@ use Rattle.std.specs.Prelude.{Result, IfOk, OnOk}
 use Rattle.std.specs.Str.{bytes_eq}
 use Rattle.std.proofs.lemmas.List.Folds.{list_any-append}
 use Rattle.std.proofs.lemmas.List.{append-nil}
-use Rattle.gas_model.specs.declared.rows.Allow.TheVariants.{Shut}
+use Rattle.base_types.specs.declared.states.Allow.TheVariants.{Shut}
 use Rattle.gas_model.specs.declared.rows.SetText.{SetText}
 use Rattle.gas_model.proofs.Decided.{noted_turn}
-use Rattle.gas_model.specs.Rows.{is_among}
+use Rattle.base_types.specs.Names.{is_among}
 use Rattle.res_table.specs.declared.rows.ResWord.{ResWord}
 use Rattle.res_table.specs.declared.rows.ResWord.TheVariants.{Pipe, Resistor, Station}
 use Rattle.network.specs.declared.marks.Marks.{Marks}

@@ -3,7 +3,7 @@ use Rattle.std.proofs.Common.{◌≡◌, ℕ, ◌+◌, ◌<◌, ◌≤◌, Bool,
 use Rattle.std.specs.List.{filter}
 use Rattle.std.proofs.Math.ListN.{drop_of_length-le}
 use Rattle.net_reader.specs.declared.rows.NetArc.{NetArc}
-use Rattle.network.specs.Books.{tighter}
+use Rattle.network.specs.Nodes.{tighter}
 use Rattle.network.specs.Nodes.{is_pipe_at, least_of, pipe_limit}
 use Rattle.network.proofs.Kept.{drop_item}
 

@@ -10,9 +10,9 @@ use Rattle.res_table.specs.declared.rows.ResWord.{ResWord}
 use Rattle.res_table.specs.declared.rows.ResWord.TheVariants.{Pipe, Resistor, Station}
 use Rattle.res_table.specs.declared.rows.ResRow.{ResRow}
 use Rattle.network.specs.declared.table.Table.{Table}
-use Rattle.network.specs.declared.faults.JoinFault.{JoinFault}
-use Rattle.network.specs.declared.faults.JoinFault.TheVariants as fault
-use Rattle.network.specs.Books.{look, nothing}
+use Rattle.problem_faults.specs.declared.join.JoinFault.{JoinFault}
+use Rattle.problem_faults.specs.declared.join.JoinFault.TheVariants as fault
+use Rattle.name_places.specs.ByName.{look, nothing}
 use Rattle.network.specs.Faults.{Tells}
 use Rattle.network.specs.Table.{is_row, row_fault, table_fault}
 use Rattle.network.specs.Tables.{look_row, no_rows, row_offence}

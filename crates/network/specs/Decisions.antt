@@ -14,8 +14,8 @@ use Rattle.cdf_reader.specs.declared.rows.ActiveWord.TheVariants.{Valve, Control
 use Rattle.cdf_reader.specs.declared.rows.CdfSet.{CdfSet}
 use Rattle.cdf_reader.specs.declared.rows.CdfDecision.{CdfDecision}
 use Rattle.cdf_reader.specs.declared.rows.CdfGroup.{CdfGroup}
-use Rattle.network.specs.declared.faults.JoinFault.{JoinFault}
-use Rattle.network.specs.declared.faults.JoinFault.TheVariants as fault
+use Rattle.problem_faults.specs.declared.join.JoinFault.{JoinFault}
+use Rattle.problem_faults.specs.declared.join.JoinFault.TheVariants as fault
 use Rattle.network.specs.Faults.{first_fault}
 
 -- what the first connection of an id is

@@ -8,8 +8,8 @@ use Rattle.net_reader.specs.declared.rows.NetRows.{NetRows}
 use Rattle.scn_reader.specs.declared.rows.ScnRows.{ScnRows}
 use Rattle.cdf_reader.specs.declared.rows.CdfRows.{CdfRows}
 use Rattle.res_table.specs.declared.rows.ResRows.{ResRows}
-use Rattle.network.specs.declared.faults.JoinFault.{JoinFault}
-use Rattle.network.specs.Faults.{of_model}
+use Rattle.problem_faults.specs.declared.join.JoinFault.{JoinFault}
+use Rattle.problem_faults.specs.OfModel.{of_model}
 use Rattle.network.specs.Table.{in_table, arcs_fault, arc_text, is_taken, table_fault}
 use Rattle.network.specs.Nodes.{node_word, nominations_fault, nomination, pipe_limit, node_row}
 use Rattle.network.specs.Decisions.{arc_word, groups_fault, group_text}

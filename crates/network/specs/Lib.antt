@@ -1,4 +1,3 @@
-pub mod Books
 pub mod Faults
 pub mod Table
 pub mod Marks

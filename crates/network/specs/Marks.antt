@@ -1,6 +1,6 @@
 -- Which words and ids of rows were seen.
 use Rattle.std.specs.Prelude.{ℕ, List, Bool, false}
-use Rattle.gas_model.specs.Rows.{is_among}
+use Rattle.base_types.specs.Names.{is_among}
 use Rattle.res_table.specs.declared.rows.ResWord.{ResWord}
 use Rattle.res_table.specs.declared.rows.ResWord.TheVariants.{Pipe, Resistor, Station}
 use Rattle.network.specs.declared.marks.Marks.{Marks}

@@ -4,7 +4,8 @@ use Rattle.std.specs.Int.{int_min, int_max}
 use Rattle.std.specs.List.{find, filter}
 use Rattle.std.specs.Str.{bytes_eq}
 use Rattle.gas_model.specs.declared.rows.NodeRow.{NodeRow}
-use Rattle.gas_model.specs.Rows.{first_offence, is_among}
+use Rattle.gas_model.specs.Rows.{first_offence}
+use Rattle.base_types.specs.Names.{is_among}
 use Rattle.net_reader.specs.declared.rows.NetNode.{NetNode}
 use Rattle.net_reader.specs.declared.rows.NodeWord.{NodeWord}
 use Rattle.net_reader.specs.declared.rows.NodeWord.TheVariants.{Source, Sink, Inner}
@@ -13,9 +14,8 @@ use Rattle.net_reader.specs.declared.rows.ArcWord.{ArcWord}
 use Rattle.net_reader.specs.declared.rows.ArcWord.TheVariants as word
 use Rattle.scn_reader.specs.declared.rows.ScnNode.{ScnNode}
 use Rattle.network.specs.declared.nominations.Nominated.{Nominated}
-use Rattle.network.specs.declared.faults.JoinFault.{JoinFault}
-use Rattle.network.specs.declared.faults.JoinFault.TheVariants as fault
-use Rattle.network.specs.Books.{tighter}
+use Rattle.problem_faults.specs.declared.join.JoinFault.{JoinFault}
+use Rattle.problem_faults.specs.declared.join.JoinFault.TheVariants as fault
 
 -- ---- nominations
 -- what the first node of an id is
@@ -64,6 +64,11 @@ is_pipe w = false
 -- a pipe leaves or enters the node of an id
 abbrev pub is_pipe_at : List ℕ → NetArc → Bool
 is_pipe_at id a = is_pipe a.word && (bytes_eq id a.from || bytes_eq id a.to)
+
+-- the lesser of a limit, if there is one, and a value
+abbrev pub tighter : Option ℤ → ℤ → ℤ
+tighter None x = x
+tighter (Some y) x = int_min y x
 
 -- the least of a limit, if there is one, and of these values
 abbrev pub least_of : Option ℤ → List ℤ → Option ℤ

@@ -15,8 +15,8 @@ use Rattle.res_table.specs.declared.rows.ResWord.{ResWord}
 use Rattle.res_table.specs.declared.rows.ResWord.TheVariants.{Pipe, Resistor, Station}
 use Rattle.res_table.specs.declared.rows.ResRow.{ResRow}
 use Rattle.network.specs.declared.table.Numbers.{Numbers}
-use Rattle.network.specs.declared.faults.JoinFault.{JoinFault}
-use Rattle.network.specs.declared.faults.JoinFault.TheVariants as fault
+use Rattle.problem_faults.specs.declared.join.JoinFault.{JoinFault}
+use Rattle.problem_faults.specs.declared.join.JoinFault.TheVariants as fault
 use Rattle.network.specs.Faults.{first_fault}
 
 abbrev pub is_word : ResWord → ResWord → Bool

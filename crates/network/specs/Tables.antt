@@ -5,9 +5,9 @@ use Rattle.res_table.specs.declared.rows.ResWord.TheVariants.{Pipe, Resistor, St
 use Rattle.res_table.specs.declared.rows.ResRow.{ResRow}
 use Rattle.network.specs.declared.table.Numbers.{Numbers}
 use Rattle.network.specs.declared.table.Table.{Table}
-use Rattle.network.specs.declared.faults.JoinFault.{JoinFault}
-use Rattle.network.specs.declared.faults.JoinFault.TheVariants as fault
-use Rattle.network.specs.Books.{look}
+use Rattle.problem_faults.specs.declared.join.JoinFault.{JoinFault}
+use Rattle.problem_faults.specs.declared.join.JoinFault.TheVariants as fault
+use Rattle.name_places.specs.ByName.{look}
 use Rattle.network.specs.Table.{is_row, numbers}
 
 abbrev pub look_row : Table → ResWord → List ℕ → Option Numbers

@@ -4,10 +4,11 @@ ghost use Rattle.network.specs.Faults.{Tells};
 ghost use Rattle.network.specs.Table.{row_of, drag, kind_with, kind_of, missing_row, arc_fault, arcs_fault, arc_text};
 ghost use Rattle.network.specs.Tables.{look_row};
 
-use crate::faults::{JoinFault, no_resistance, no_station};
+use crate::faults::{no_resistance, no_station};
 use crate::table::{Numbers, Table, find_row, row_word};
 use gas_model::{ArcKind, ArcText, Drag, List};
 use net_reader::{ArcWord, NetArc};
+use problem_faults::JoinFault;
 use std::alloc::Global;
 
 // The numbers of the row that a connection takes.

@@ -8,7 +8,6 @@ ghost use Rattle.network.specs.Joined.{join_fault, joined_rows, joined_problem};
 
 use crate::arcs::arc_texts;
 use crate::decisions::{arc_words, check_groups, group_texts};
-use crate::faults::JoinFault;
 use crate::limits::pipe_limits;
 use crate::nodes::node_rows;
 use crate::nominations::{check_nominations, node_words, nominations_of};
@@ -16,6 +15,7 @@ use crate::table::{check_table, table_of};
 use cdf_reader::{CdfGroup, CdfRows};
 use gas_model::{ArcText, List, NoMemory, NodeRow, Problem, Rows};
 use net_reader::{NetArc, NetNode, NetRows};
+use problem_faults::JoinFault;
 use res_table::{ResRow, ResRows};
 use scn_reader::{ScnNode, ScnRows};
 use std::alloc::Global;

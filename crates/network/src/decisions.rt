@@ -1,25 +1,26 @@
 // Decisions, against the connections of which they speak.
 ghost use Rattle.std.specs.Prelude.{◌≡◌, None, IfOk, IfErr, OnOk, map};
-ghost use Rattle.network.specs.Books.{look};
+ghost use Rattle.name_places.specs.ByName.{look};
 ghost use Rattle.network.specs.Faults.{Tells};
 ghost use Rattle.network.specs.Decisions.{arc_word, is_called, set_fault, decision_fault, group_fault, groups_fault, set_text, decision_text, group_text};
 
-use crate::books::{Book, blank, find, keep_first};
-use crate::faults::{JoinFault, wrong_type};
+use crate::faults::wrong_type;
 use cdf_reader::{ActiveWord, CdfDecision, CdfGroup, CdfSet};
 use gas_model::{DecisionText, GroupText, List, NoMemory, SetText};
+use name_places::{ByName, keep_first, no_values, value_of};
 use net_reader::{ArcWord, NetArc};
+use problem_faults::JoinFault;
 use std::alloc::Global;
 
 /// What connections are; of two of one id, the first.
-pub fn arc_words(alloc: Global, arcs: &[NetArc]) -> Result<Book<'_, ArcWord>, NoMemory>
-    ensures { IfOk result (λ book. look book ≡ arc_word arcs.now) }
+pub fn arc_words(alloc: Global, arcs: &[NetArc]) -> Result<ByName<'_, ArcWord>, NoMemory>
+    ensures { IfOk result (λ words. look words ≡ arc_word arcs.now) }
 {
-    let mut book = blank(alloc);
+    let mut words = no_values(alloc);
     for arc in arcs {
-        keep_first(&mut book, arc.id.as_str(), arc.word)?;
+        keep_first(&mut words, arc.id.as_str(), arc.word)?;
     }
-    Ok(book)
+    Ok(words)
 }
 
 // Whether a decision file calls a connection so.
@@ -34,11 +35,11 @@ fn is_called(word: ActiveWord, arc: ArcWord) -> bool
     }
 }
 
-fn check_set(alloc: Global, words: &Book<'_, ArcWord>, set: &CdfSet) -> Result<(), JoinFault>
+fn check_set(alloc: Global, words: &ByName<'_, ArcWord>, set: &CdfSet) -> Result<(), JoinFault>
     ensures clean { OnOk result (set_fault (look words.now) set.now ≡ None) }
     ensures err { IfErr result (λ e. Tells e (set_fault (look words.now) set.now)) }
 {
-    match find(words, set.arc.as_str()) {
+    match value_of(words, set.arc.as_str()) {
         Some(arc) => {
             if is_called(set.word, arc) {
                 Ok(())
@@ -52,7 +53,7 @@ fn check_set(alloc: Global, words: &Book<'_, ArcWord>, set: &CdfSet) -> Result<(
 
 fn check_decision(
     alloc: Global,
-    words: &Book<'_, ArcWord>,
+    words: &ByName<'_, ArcWord>,
     decision: &CdfDecision,
 ) -> Result<(), JoinFault>
     ensures clean { OnOk result (decision_fault (look words.now) decision.now ≡ None) }
@@ -65,7 +66,11 @@ fn check_decision(
     Ok(())
 }
 
-fn check_group(alloc: Global, words: &Book<'_, ArcWord>, group: &CdfGroup) -> Result<(), JoinFault>
+fn check_group(
+    alloc: Global,
+    words: &ByName<'_, ArcWord>,
+    group: &CdfGroup,
+) -> Result<(), JoinFault>
     ensures clean { OnOk result (group_fault (look words.now) group.now ≡ None) }
     ensures err { IfErr result (λ e. Tells e (group_fault (look words.now) group.now)) }
 {
@@ -79,7 +84,7 @@ fn check_group(alloc: Global, words: &Book<'_, ArcWord>, group: &CdfGroup) -> Re
 /// That each connection of which a decision speaks is called so, if there is one.
 pub fn check_groups(
     alloc: Global,
-    words: &Book<'_, ArcWord>,
+    words: &ByName<'_, ArcWord>,
     groups: &[CdfGroup],
 ) -> Result<(), JoinFault>
     ensures clean { OnOk result (groups_fault (look words.now) groups.now ≡ None) }

@@ -3,7 +3,6 @@
 
 mod arcs;
 mod assembly;
-mod books;
 mod decisions;
 mod faults;
 mod limits;
@@ -13,7 +12,7 @@ mod nominations;
 mod table;
 
 pub use assembly::assemble;
-pub use faults::JoinFault;
+pub use problem_faults::JoinFault;
 
 #[cfg(test)]
 mod tests;

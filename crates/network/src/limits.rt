@@ -1,10 +1,11 @@
 // The greatest pressures that pipes leave their nodes.
 ghost use Rattle.std.specs.Prelude.{◌≡◌, ℕ, List, Some, IfOk, OnOk, if◌then◌else◌};
-ghost use Rattle.network.specs.Books.{look, tighter};
-ghost use Rattle.network.specs.Nodes.{is_pipe, is_pipe_at, pipe_limit};
+ghost use Rattle.name_places.specs.ByName.{look};
+ghost use Rattle.std.specs.Str.{bytes_eq};
+ghost use Rattle.network.specs.Nodes.{tighter, is_pipe, is_pipe_at, pipe_limit};
 
-use crate::books::{Book, blank, lower};
 use gas_model::NoMemory;
+use name_places::{ByName, no_values, set_value, value_of};
 use net_reader::{ArcWord, NetArc};
 use std::alloc::Global;
 
@@ -14,8 +15,26 @@ fn is_pipe(word: ArcWord) -> bool
     matches!(word, ArcWord::Pipe)
 }
 
+/// The lesser of a limit, if there is one, and a value.
+pub fn tighter(limit: Option<i64>, value: i64) -> i64
+    ensures { result ≡ tighter limit value }
+{
+    match limit {
+        Some(limit) => limit.min(value),
+        None => value,
+    }
+}
+
+// Gives a name a value, where it has none or a greater one.
+fn lower<'a>(limits: &mut ByName<'a, i64>, name: &'a str, value: i64) -> Result<(), NoMemory>
+    ensures { OnOk result ((id : List ℕ) → look limits.new id ≡ (if bytes_eq id name.now then Some (tighter (look limits.old id) value) else look limits.old id)) }
+{
+    let lesser = tighter(value_of(limits, name), value);
+    set_value(limits, name, lesser)
+}
+
 // Takes in the limit of a connection, if it is a pipe, at both of its ends.
-fn add_limit<'a>(limits: &mut Book<'a, i64>, arc: &'a NetArc) -> Result<(), NoMemory>
+fn add_limit<'a>(limits: &mut ByName<'a, i64>, arc: &'a NetArc) -> Result<(), NoMemory>
     ensures { OnOk result ((id : List ℕ) → look limits.new id ≡ (if is_pipe_at id arc.now then Some (tighter (look limits.old id) arc.now.p_max) else look limits.old id)) }
 {
     if is_pipe(arc.word) {
@@ -26,10 +45,10 @@ fn add_limit<'a>(limits: &mut Book<'a, i64>, arc: &'a NetArc) -> Result<(), NoMe
 }
 
 /// The least of the limits of the pipes at each node that has any.
-pub fn pipe_limits(alloc: Global, arcs: &[NetArc]) -> Result<Book<'_, i64>, NoMemory>
-    ensures { IfOk result (λ book. look book ≡ pipe_limit arcs.now) }
+pub fn pipe_limits(alloc: Global, arcs: &[NetArc]) -> Result<ByName<'_, i64>, NoMemory>
+    ensures { IfOk result (λ limits. look limits ≡ pipe_limit arcs.now) }
 {
-    let mut limits = blank(alloc);
+    let mut limits = no_values(alloc);
     for arc in arcs {
         add_limit(&mut limits, arc)?;
     }

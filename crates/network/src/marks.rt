@@ -5,25 +5,26 @@ ghost use Rattle.res_table.specs.declared.rows.ResWord.{ResWord};
 ghost use Rattle.network.specs.Table.{is_word};
 ghost use Rattle.network.specs.Marks.{is_marked, nothing_marked};
 
-use gas_model::{NoMemory, Places};
+use gas_model::NoMemory;
+use name_places::NamePlaces;
 use res_table::ResWord;
 use std::alloc::Global;
 
 /// Ids by the words of their rows.
 #[derive(Drop)]
 pub struct Marks<'a> {
-    pub pipes: Places<'a>,
-    pub resistors: Places<'a>,
-    pub stations: Places<'a>,
+    pub pipes: NamePlaces<'a>,
+    pub resistors: NamePlaces<'a>,
+    pub stations: NamePlaces<'a>,
 }
 
 pub fn no_marks<'a>(alloc: Global) -> Marks<'a>
     ensures { is_marked result ≡ nothing_marked }
 {
     Marks {
-        pipes: Places::new(alloc),
-        resistors: Places::new(alloc),
-        stations: Places::new(alloc),
+        pipes: NamePlaces::new(alloc),
+        resistors: NamePlaces::new(alloc),
+        stations: NamePlaces::new(alloc),
     }
 }
 

@@ -1,11 +1,12 @@
 // Nodes with the bounds that the network, their nominations and their pipes give them.
 ghost use Rattle.std.specs.Prelude.{◌≡◌, IfOk, map};
-ghost use Rattle.network.specs.Books.{look};
+ghost use Rattle.name_places.specs.ByName.{look};
 ghost use Rattle.network.specs.Nodes.{opposite, supply, least_pressure, greatest_pressure, bounded, node_row};
 
-use crate::books::{Book, find, tighter};
+use crate::limits::tighter;
 use crate::nominations::Nominated;
 use gas_model::{List, NoMemory, NodeRow};
+use name_places::{ByName, value_of};
 use net_reader::NetNode;
 use std::alloc::Global;
 
@@ -72,8 +73,8 @@ fn bounded(
 /// All nodes with their bounds.
 pub fn node_rows(
     alloc: Global,
-    nominations: &Book<'_, Nominated>,
-    limits: &Book<'_, i64>,
+    nominations: &ByName<'_, Nominated>,
+    limits: &ByName<'_, i64>,
     nodes: &[NetNode],
 ) -> Result<List<NodeRow>, NoMemory>
     ensures { IfOk result (λ rows. rows ≡ map (node_row (look nominations.now) (look limits.now)) nodes.now) }
@@ -81,7 +82,7 @@ pub fn node_rows(
     let mut rows = List::new(alloc);
     for node in nodes {
         let id = node.id.as_str();
-        let row = bounded(alloc, node, find(nominations, id), find(limits, id))?;
+        let row = bounded(alloc, node, value_of(nominations, id), value_of(limits, id))?;
         rows.push(row)?;
     }
     Ok(rows)

@@ -1,13 +1,14 @@
 // The nominations of nodes.
 ghost use Rattle.std.specs.Prelude.{◌≡◌, ◌++◌, ◌∷◌, [], None, IfOk, IfErr, OnOk};
-ghost use Rattle.network.specs.Books.{look};
+ghost use Rattle.name_places.specs.ByName.{look};
 ghost use Rattle.network.specs.Faults.{Tells};
 ghost use Rattle.network.specs.Nodes.{node_word, is_fit, nominated_id, nomination_fault, nominations_fault, nominated, nomination};
 
-use crate::books::{Book, blank, find, keep_first};
-use crate::faults::{JoinFault, no_such_node, twice_nominated, wrong_type};
-use gas_model::{NoMemory, Places};
+use crate::faults::{no_such_node, twice_nominated, wrong_type};
+use gas_model::NoMemory;
+use name_places::{ByName, NamePlaces, keep_first, no_values, value_of};
 use net_reader::{NetNode, NodeWord};
+use problem_faults::JoinFault;
 use scn_reader::ScnNode;
 use std::alloc::Global;
 
@@ -22,14 +23,14 @@ pub struct Nominated {
 }
 
 /// What nodes are; of two of one id, the first.
-pub fn node_words(alloc: Global, nodes: &[NetNode]) -> Result<Book<'_, NodeWord>, NoMemory>
-    ensures { IfOk result (λ book. look book ≡ node_word nodes.now) }
+pub fn node_words(alloc: Global, nodes: &[NetNode]) -> Result<ByName<'_, NodeWord>, NoMemory>
+    ensures { IfOk result (λ words. look words ≡ node_word nodes.now) }
 {
-    let mut book = blank(alloc);
+    let mut words = no_values(alloc);
     for node in nodes {
-        keep_first(&mut book, node.id.as_str(), node.word)?;
+        keep_first(&mut words, node.id.as_str(), node.word)?;
     }
-    Ok(book)
+    Ok(words)
 }
 
 // Whether gas may enter, or leave, at such a node.
@@ -46,15 +47,15 @@ fn is_fit(entry: bool, word: NodeWord) -> bool
 // Adds the id of a nomination to those before it.
 fn add_nomination<'a>(
     alloc: Global,
-    words: &Book<'_, NodeWord>,
-    earlier: &mut Places<'a>,
+    words: &ByName<'_, NodeWord>,
+    earlier: &mut NamePlaces<'a>,
     node: &'a ScnNode,
 ) -> Result<(), JoinFault>
     ensures ok { OnOk result (earlier.new ≡ earlier.old ++ nominated_id node.now ∷ []) }
     ensures clean { OnOk result (nomination_fault (look words.now) earlier.old node.now ≡ None) }
     ensures err { IfErr result (λ e. Tells e (nomination_fault (look words.now) earlier.old node.now)) }
 {
-    let Some(word) = find(words, node.id.as_str()) else {
+    let Some(word) = value_of(words, node.id.as_str()) else {
         return Err(no_such_node(alloc, &node.id));
     };
     if !is_fit(node.entry, word) {
@@ -69,13 +70,13 @@ fn add_nomination<'a>(
 /// That nominations are of different nodes that there are, each of the right type.
 pub fn check_nominations(
     alloc: Global,
-    words: &Book<'_, NodeWord>,
+    words: &ByName<'_, NodeWord>,
     nodes: &[ScnNode],
 ) -> Result<(), JoinFault>
     ensures clean { OnOk result (nominations_fault (look words.now) nodes.now ≡ None) }
     ensures err { IfErr result (λ e. Tells e (nominations_fault (look words.now) nodes.now)) }
 {
-    let mut earlier = Places::new(alloc);
+    let mut earlier = NamePlaces::new(alloc);
     for node in nodes {
         add_nomination(alloc, words, &mut earlier, node)?;
     }
@@ -95,12 +96,12 @@ fn bounds_of(node: &ScnNode) -> Nominated
 }
 
 /// The nominations by the ids of their nodes.
-pub fn nominations_of(alloc: Global, nodes: &[ScnNode]) -> Result<Book<'_, Nominated>, NoMemory>
-    ensures { IfOk result (λ book. look book ≡ nomination nodes.now) }
+pub fn nominations_of(alloc: Global, nodes: &[ScnNode]) -> Result<ByName<'_, Nominated>, NoMemory>
+    ensures { IfOk result (λ nominations. look nominations ≡ nomination nodes.now) }
 {
-    let mut book = blank(alloc);
+    let mut nominations = no_values(alloc);
     for node in nodes {
-        keep_first(&mut book, node.id.as_str(), bounds_of(node))?;
+        keep_first(&mut nominations, node.id.as_str(), bounds_of(node))?;
     }
-    Ok(book)
+    Ok(nominations)
 }

@@ -7,11 +7,11 @@ ghost use Rattle.network.specs.Table.{is_row, in_table, row_word, takes, is_take
 ghost use Rattle.network.specs.Marks.{is_marked};
 ghost use Rattle.network.specs.Tables.{look_row, no_rows, only_row, row_offence};
 
-use crate::books::{Book, blank, find, keep_first};
-use crate::faults::JoinFault;
 use crate::marks::{Marks, is_marked, mark, no_marks};
 use gas_model::NoMemory;
+use name_places::{ByName, keep_first, no_values, value_of};
 use net_reader::{ArcWord, NetArc};
+use problem_faults::JoinFault;
 use res_table::{ResRow, ResWord};
 use std::alloc::Global;
 
@@ -26,18 +26,18 @@ pub struct Numbers {
 /// The numbers of rows by their ids, for each word.
 #[derive(Drop)]
 pub struct Table<'a> {
-    pub pipes: Book<'a, Numbers>,
-    pub resistors: Book<'a, Numbers>,
-    pub stations: Book<'a, Numbers>,
+    pub pipes: ByName<'a, Numbers>,
+    pub resistors: ByName<'a, Numbers>,
+    pub stations: ByName<'a, Numbers>,
 }
 
 fn no_rows<'a>(alloc: Global) -> Table<'a>
     ensures { look_row result ≡ no_rows }
 {
     Table {
-        pipes: blank(alloc),
-        resistors: blank(alloc),
-        stations: blank(alloc),
+        pipes: no_values(alloc),
+        resistors: no_values(alloc),
+        stations: no_values(alloc),
     }
 }
 
@@ -74,9 +74,9 @@ pub fn find_row(table: &Table<'_>, word: ResWord, id: &str) -> Option<Numbers>
     ensures { result ≡ look_row table.now word id.now }
 {
     match word {
-        ResWord::Pipe => find(&table.pipes, id),
-        ResWord::Resistor => find(&table.resistors, id),
-        ResWord::Station => find(&table.stations, id),
+        ResWord::Pipe => value_of(&table.pipes, id),
+        ResWord::Resistor => value_of(&table.resistors, id),
+        ResWord::Station => value_of(&table.stations, id),
     }
 }
 

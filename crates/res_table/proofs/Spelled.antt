@@ -5,7 +5,8 @@ use Rattle.std.specs.Str.{bytes_eq}
 use Rattle.std.proofs.lemmas.Bool.{and_parts, eqb-true, lt-ltb, leb-true}
 use Rattle.std.proofs.lemmas.Slice.Eq.{bytes_eq-Decides}
 use Rattle.csv.specs.Records.{field_at}
-use Rattle.gas_model.specs.Limits.{is_id, between}
+use Rattle.base_types.specs.Ids.{is_id}
+use Rattle.base_types.specs.Numbers.{between}
 use Rattle.line_text.specs.Numerals.{signed_numeral, natural}
 use Rattle.line_text.proofs.Numbers.{natural_again, natural_takes, bound}
 use Rattle.res_table.specs.declared.rows.ResWord.{ResWord}

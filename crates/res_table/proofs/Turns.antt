@@ -7,8 +7,8 @@ use Rattle.csv.specs.Reading.{default_config, records_from, records_next}
 use Rattle.csv.specs.declared.parser.State.{State}
 use Rattle.csv.specs.declared.reader.Reader.{Reader}
 use Rattle.res_table.specs.declared.rows.ResRow.{ResRow}
-use Rattle.res_table.specs.declared.rows.ResFault.{ResFault}
-use Rattle.res_table.specs.declared.rows.ResFault.TheVariants as fault
+use Rattle.file_faults.specs.declared.table.ResFault.{ResFault}
+use Rattle.file_faults.specs.declared.table.ResFault.TheVariants as fault
 use Rattle.res_table.specs.Reading.{Bytes, Stands, Took}
 use Rattle.res_table.specs.Row.{row_in}
 use Rattle.res_table.specs.Table.{◌>>=◌, found_at, rows_from}

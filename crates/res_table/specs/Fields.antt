@@ -1,7 +1,7 @@
 -- What a field of a record is.
 use Rattle.std.specs.Prelude.{ℕ, List, if◌then◌else◌, Option, Some, None, option_and_then, ◌^◌, nat_lt, ℤ, pos, codes}
 use Rattle.std.specs.Str.{bytes_eq}
-use Rattle.gas_model.specs.Limits.{is_id}
+use Rattle.base_types.specs.Ids.{is_id}
 use Rattle.line_text.specs.Numerals.{natural}
 use Rattle.res_table.specs.declared.rows.ResWord.{ResWord}
 use Rattle.res_table.specs.declared.rows.ResWord.TheVariants.{Pipe, Resistor, Station}

@@ -1,7 +1,8 @@
 -- The row that a record is.
 use Rattle.std.specs.Prelude.{ℕ, ◌==◌, ◌&&◌, not, List, length, Bool, if◌then◌else◌, Option, Some, None, option_and_then, ℤ}
 use Rattle.csv.specs.Records.{field_at}
-use Rattle.gas_model.specs.Limits.{is_drag_within, is_ratio_within, is_difference}
+use Rattle.gas_model.specs.Limits.{is_drag_within, is_ratio_within}
+use Rattle.base_types.specs.Numbers.{is_difference}
 use Rattle.res_table.specs.declared.rows.ResWord.{ResWord}
 use Rattle.res_table.specs.declared.rows.ResWord.TheVariants.{Pipe, Resistor, Station}
 use Rattle.res_table.specs.declared.rows.ResRow.{ResRow}

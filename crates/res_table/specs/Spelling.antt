@@ -1,7 +1,7 @@
 -- The fields that spell a row.
 use Rattle.std.specs.Prelude.{◌≡◌, ℕ, List, [], ◌∷◌, Some, true, codes}
 use Rattle.line_text.specs.Numerals.{signed_numeral}
-use Rattle.gas_model.specs.Limits.{is_id}
+use Rattle.base_types.specs.Ids.{is_id}
 use Rattle.res_table.specs.declared.rows.ResWord.{ResWord}
 use Rattle.res_table.specs.declared.rows.ResWord.TheVariants.{Pipe, Resistor, Station}
 use Rattle.res_table.specs.declared.rows.ResRow.{ResRow}

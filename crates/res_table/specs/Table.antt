@@ -2,8 +2,8 @@
 use Rattle.std.specs.Prelude.{◌≡◌, ℕ, ◌+◌, List, [], ◌∷◌, Option, Some, None, Result, Ok, Err}
 use Rattle.csv.specs.Reading.{default_config, strip_bom, records}
 use Rattle.res_table.specs.declared.rows.ResRow.{ResRow}
-use Rattle.res_table.specs.declared.rows.ResFault.{ResFault}
-use Rattle.res_table.specs.declared.rows.ResFault.TheVariants as fault
+use Rattle.file_faults.specs.declared.table.ResFault.{ResFault}
+use Rattle.file_faults.specs.declared.table.ResFault.TheVariants as fault
 use Rattle.res_table.specs.Row.{row_in}
 
 infixl 10 ◌>>=◌

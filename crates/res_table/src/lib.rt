@@ -2,14 +2,15 @@
 #![tactic(auto)]
 
 mod fields;
-mod laws;
 mod records;
 mod row;
+mod row_form;
 mod rows;
 mod table;
 
-pub use laws::rows_have_their_form;
-pub use rows::{ResFault, ResRow, ResRows, ResWord};
+pub use file_faults::ResFault;
+pub use row_form::rows_have_their_form;
+pub use rows::{ResRow, ResRows, ResWord};
 pub use table::read_res;
 
 #[cfg(test)]

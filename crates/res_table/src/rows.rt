@@ -1,8 +1,6 @@
-// The rows of a table, and why a table is refused.
-ghost use Rattle.std.specs.Prelude.{◌≡◌};
-ghost use Rattle.res_table.specs.declared.rows.ResFault.TheVariants as fault;
+// The rows of a table.
 
-use gas_model::{List, Name, NoMemory};
+use gas_model::{List, Name};
 
 /// What a row speaks of.
 #[derive(Clone, Copy, Debug, PartialEq, Eq)]
@@ -33,21 +31,4 @@ pub struct ResRow {
 #[derive(Debug, Drop)]
 pub struct ResRows {
     pub rows: List<ResRow>,
-}
-
-/// Why a table is refused.
-#[derive(Clone, Copy, Debug, PartialEq, Eq)]
-pub enum ResFault {
-    /// The first record that is no row, counted from 1. Blank lines are no records.
-    BadRow { row: u64 },
-    /// Memory could not be had.
-    NoMemory,
-}
-
-impl From<NoMemory> for ResFault {
-    ghost from_gives = { λ _ e. e ≡ fault.NoMemory };
-
-    fn from(_: NoMemory) -> ResFault {
-        ResFault::NoMemory
-    }
 }

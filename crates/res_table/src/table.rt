@@ -4,8 +4,9 @@ ghost use Rattle.res_table.specs.Table.{Gives, resistance_rows};
 
 use crate::records::{next_record, reader_of};
 use crate::row::row_in;
-use crate::rows::{ResFault, ResRows};
+use crate::rows::ResRows;
 use csv::ByteRecord;
+use file_faults::ResFault;
 use gas_model::List;
 use std::alloc::Global;
 

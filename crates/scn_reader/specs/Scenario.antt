@@ -2,9 +2,9 @@
 use Rattle.std.specs.Prelude.{ℕ, List, [], ◌∷◌, not, Bool, true, false, if◌then◌else◌, Option, Some, None, Result, Ok, Err, codes}
 use Rattle.std.specs.Str.{bytes_eq}
 use Rattle.tag_outline.specs.declared.outline.Element.{Element}
-use Rattle.tag_outline.specs.declared.fault.OutlineFault.TheVariants as outline_fault
-use Rattle.tag_outline.specs.declared.fault.FileFault.{FileFault}
-use Rattle.tag_outline.specs.declared.fault.FileFault.TheVariants as fault
+use Rattle.file_faults.specs.declared.outline.OutlineFault.TheVariants as outline_fault
+use Rattle.file_faults.specs.declared.outline.FileFault.{FileFault}
+use Rattle.file_faults.specs.declared.outline.FileFault.TheVariants as fault
 use Rattle.element_fields.specs.Answers.{◌>>=◌, found_or, rows_of}
 use Rattle.element_fields.specs.Lookup.{Placed, value_of, child, children_named}
 use Rattle.element_fields.specs.Names.{label, id_in}

@@ -1,5 +1,5 @@
 // What a scenario file says.
-use gas_model::{List, Name};
+use base_types::{List, Name};
 
 /// A nominated node. Pressures lie from 0 to 10^8 Pa, flows within 10^12 l/h either way.
 #[derive(Debug, Drop)]

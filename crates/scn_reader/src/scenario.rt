@@ -1,6 +1,6 @@
 // The nominated nodes of a scenario file.
 ghost use Rattle.std.specs.Prelude.{◌≡◌, ℕ, List, IfOk, IfErr, Ok, Err};
-ghost use Rattle.tag_outline.specs.declared.fault.FileFault.{FileFault};
+ghost use Rattle.file_faults.specs.declared.outline.FileFault.{FileFault};
 ghost use Rattle.element_fields.specs.Answers.{Gives};
 ghost use Rattle.element_fields.specs.Files.{file_in, IsFile, MayFail, IsFileFault};
 ghost use Rattle.scn_reader.specs.Scenario.{entry_word, entry_in, node_in, node_rows, scenario_in, scenario_rows};
@@ -8,8 +8,8 @@ ghost use Rattle.scn_reader.specs.declared.rows.ScnRows.{ScnRows};
 
 use crate::bounds::node_bounds;
 use crate::rows::{ScnNode, ScnRows};
+use base_types::List;
 use element_fields::{bad_word, child, id_in, label, missing, outline_for, value_of};
-use gas_model::List;
 use std::alloc::Global;
 use tag_outline::{Element, FileFault, OutlineFault};
 

@@ -1,7 +1,7 @@
 -- A setting's data nests three deep.
 use Rattle.std.proofs.Common.{◌≤◌, List, [], ◌∷◌, ℤ, arith}
 use Rattle.gas_model.specs.declared.rows.ArcRow.{ArcRow}
-use Rattle.gas_model.specs.declared.rows.ArcState.{ArcState}
+use Rattle.base_types.specs.declared.states.ArcState.{ArcState}
 use Rattle.gas_model.specs.declared.rows.Setting.{Setting}
 use Rattle.gas_model.specs.Rows.{Network}
 use Rattle.serde_json.specs.Data.{Data, depth, items_depth}

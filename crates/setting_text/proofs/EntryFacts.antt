@@ -9,22 +9,22 @@ use Rattle.std.proofs.lemmas.Slice.Eq.{bytes_eq-Decides}
 use Rattle.gas_model.specs.declared.rows.NodeRow.{NodeRow}
 use Rattle.gas_model.specs.declared.rows.ArcKind.{ArcKind}
 use Rattle.gas_model.specs.declared.rows.ArcRow.{ArcRow}
-use Rattle.gas_model.specs.declared.rows.ArcState.{ArcState}
+use Rattle.base_types.specs.declared.states.ArcState.{ArcState}
 use Rattle.gas_model.specs.declared.rows.Decision.{Decision}
 use Rattle.gas_model.specs.declared.rows.Group.{Group}
-use Rattle.gas_model.specs.Limits.{between, is_flow, is_square}
+use Rattle.base_types.specs.Numbers.{between, is_flow, is_square}
 use Rattle.gas_model.specs.Choices.{has_state}
 use Rattle.serde_json.specs.Data.{unsigned, negative, float, Data, null, boolean, number, string, array, object, Items, no_items, item}
 use Rattle.serde_json.specs.Find.{at, of_integer}
 use Rattle.serde_json.specs.View.{items_of}
-use Rattle.setting_text.specs.declared.fault.Key.{Key}
-use Rattle.setting_text.specs.declared.fault.Key.TheVariants as key
-use Rattle.setting_text.specs.declared.fault.SettingFault.{SettingFault}
-use Rattle.setting_text.specs.declared.fault.SettingFault.TheVariants as fault
+use Rattle.file_faults.specs.declared.setting.Key.{Key}
+use Rattle.file_faults.specs.declared.setting.Key.TheVariants as key
+use Rattle.file_faults.specs.declared.setting.SettingFault.{SettingFault}
+use Rattle.file_faults.specs.declared.setting.SettingFault.TheVariants as fault
 use Rattle.setting_text.specs.declared.entries.ArcEntry.{ArcEntry}
 use Rattle.setting_text.specs.Writing.{list, decision_id, group_data, node_data, entries}
-use Rattle.gas_model.specs.Words.{state_word, state_named}
-use Rattle.gas_model.proofs.StateWords.{word_names, named_only}
+use Rattle.base_types.specs.StateWords.{state_word, state_named}
+use Rattle.base_types.proofs.StateWords.{word_names, named_only}
 use Rattle.setting_text.specs.Reading.{◌>>=◌, listed, text_at, is_text, is_entry, number_at, of_kind, state_at, arc_entry, decision_place, group_entry, node_entry, read_each, array_of}
 use Rattle.setting_text.proofs.Canonical.{IsCanonical, ItemsAreCanonical}
 use Rattle.setting_text.proofs.Lists.{listed_items}

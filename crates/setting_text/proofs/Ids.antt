@@ -18,8 +18,11 @@ use Rattle.gas_model.specs.declared.rows.Group.{Group}
 use Rattle.gas_model.specs.declared.rows.GroupText.{GroupText}
 use Rattle.gas_model.specs.declared.rows.ModelFault.{ModelFault}
 use Rattle.gas_model.specs.declared.rows.ModelFault.TheVariants as model
-use Rattle.gas_model.specs.Limits.{is_id, is_flow, is_pressure, is_kind_within, has_id_form}
-use Rattle.gas_model.specs.Rows.{Network, IsProblem, answer, is_among, rows_of, rows_fault, count_fault, group_count_fault, nodes_fault, arcs_fault, group_fault, decision_fault, decision_key, first_offence, node_ids, arc_id, group_text, decision_text, group_ids, decided_by}
+use Rattle.base_types.specs.Ids.{is_id, has_id_form}
+use Rattle.base_types.specs.Numbers.{is_flow, is_pressure}
+use Rattle.gas_model.specs.Limits.{is_kind_within}
+use Rattle.gas_model.specs.Rows.{Network, IsProblem, answer, rows_of, rows_fault, count_fault, group_count_fault, nodes_fault, arcs_fault, group_fault, decision_fault, decision_key, first_offence, node_ids, arc_id, group_text, decision_text, group_ids, decided_by}
+use Rattle.base_types.specs.Names.{is_among}
 use Rattle.gas_model.specs.Within.{IsWithin, is_group_within, is_decision_within}
 use Rattle.setting_text.specs.Writing.{decision_id}
 use Rattle.setting_text.specs.Reading.{HaveFewDecisions, decision_place}

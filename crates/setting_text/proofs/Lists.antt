@@ -10,8 +10,8 @@ use Rattle.serde_json.specs.Find.{as_object}
 use Rattle.serde_json.specs.View.{view, items_of, items_view, members_view}
 use Rattle.serde_json.proofs.Views.{members_len-members_view}
 use Rattle.serde_json.specs.declared.value.Value.{Value}
-use Rattle.setting_text.specs.declared.fault.SettingFault.{SettingFault}
-use Rattle.setting_text.specs.declared.fault.SettingFault.TheVariants as fault
+use Rattle.file_faults.specs.declared.setting.SettingFault.{SettingFault}
+use Rattle.file_faults.specs.declared.setting.SettingFault.TheVariants as fault
 use Rattle.setting_text.specs.Reading.{◌>>=◌, Fails, listed, has_members, read_each}
 
 -- a list as items, and as a list again

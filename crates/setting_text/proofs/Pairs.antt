@@ -4,7 +4,7 @@ use Rattle.std.specs.Prelude.{slice_get, ⊤}
 use Rattle.std.specs.List.{list_all}
 use Rattle.std.proofs.lemmas.Bool.{and_parts}
 use Rattle.gas_model.specs.declared.rows.ArcRow.{ArcRow}
-use Rattle.gas_model.specs.declared.rows.ArcState.{ArcState}
+use Rattle.base_types.specs.declared.states.ArcState.{ArcState}
 use Rattle.serde_json.specs.Data.{Data}
 use Rattle.setting_text.specs.declared.entries.ArcEntry.{ArcEntry}
 use Rattle.setting_text.specs.Writing.{entries, arc_entries, arc_data}

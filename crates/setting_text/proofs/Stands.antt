@@ -8,11 +8,11 @@ use Rattle.std.proofs.lemmas.Str.{IsUtf8-append, is_utf8-from_IsUtf8}
 use Rattle.json.proofs.Printed.Utf8.{IsUtf8-are_ascii}
 use Rattle.gas_model.specs.declared.rows.NodeRow.{NodeRow}
 use Rattle.gas_model.specs.declared.rows.ArcRow.{ArcRow}
-use Rattle.gas_model.specs.declared.rows.ArcState.{ArcState}
-use Rattle.gas_model.specs.declared.rows.ArcState.TheVariants.{Opened, Shut, Active, Bypass}
+use Rattle.base_types.specs.declared.states.ArcState.{ArcState}
+use Rattle.base_types.specs.declared.states.ArcState.TheVariants.{Opened, Shut, Active, Bypass}
 use Rattle.gas_model.specs.declared.rows.Group.{Group}
 use Rattle.gas_model.specs.declared.rows.Setting.{Setting}
-use Rattle.gas_model.specs.Limits.{is_flow, is_square}
+use Rattle.base_types.specs.Numbers.{is_flow, is_square}
 use Rattle.gas_model.specs.Rows.{Network, IsProblem}
 use Rattle.gas_model.specs.Choices.{has_state}
 use Rattle.gas_model.specs.Near.{SettingFits}
@@ -22,12 +22,12 @@ use Rattle.serde_json.specs.Find.{of_integer}
 use Rattle.serde_json.specs.Read.{read}
 use Rattle.serde_json.specs.View.{items_of}
 use Rattle.serde_json.specs.Written.{compact_text}
-use Rattle.setting_text.specs.declared.fault.Key.TheVariants as key
-use Rattle.setting_text.specs.declared.fault.SettingFault.{SettingFault}
-use Rattle.setting_text.specs.declared.fault.SettingFault.TheVariants as fault
+use Rattle.file_faults.specs.declared.setting.Key.TheVariants as key
+use Rattle.file_faults.specs.declared.setting.SettingFault.{SettingFault}
+use Rattle.file_faults.specs.declared.setting.SettingFault.TheVariants as fault
 use Rattle.setting_text.specs.declared.entries.ArcEntry.{ArcEntry}
 use Rattle.setting_text.specs.Writing.{list, decision_id, group_data, node_data, entries, arc_entries, setting_data, setting_text}
-use Rattle.gas_model.specs.Words.{state_word}
+use Rattle.base_types.specs.StateWords.{state_word}
 use Rattle.setting_text.specs.Reading.{◌>>=◌, arc_entry, decision_place, group_entry, node_entry, read_each, array_of, is_whole, entry_state, entry_flow, setting_in, value_of, setting_of, AreOfKinds, StandsFor, IsRead, Gives}
 use Rattle.setting_text.proofs.Canonical.{IsCanonical, KeysAscend, canonical-read, ascend-read}
 use Rattle.setting_text.proofs.Whole.{three, whole_is}

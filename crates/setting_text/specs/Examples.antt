@@ -4,9 +4,9 @@ use Rattle.gas_model.specs.declared.rows.NodeRow.{NodeRow}
 use Rattle.gas_model.specs.declared.rows.ArcRow.{ArcRow}
 use Rattle.gas_model.specs.declared.rows.ArcKind.{ArcKind}
 use Rattle.gas_model.specs.declared.rows.ArcKind.TheVariants.{Pipe, Valve}
-use Rattle.gas_model.specs.declared.rows.ArcState.TheVariants.{Opened, Shut}
-use Rattle.gas_model.specs.declared.rows.Allow.{Allow}
-use Rattle.gas_model.specs.declared.rows.Allow.TheVariants as allow
+use Rattle.base_types.specs.declared.states.ArcState.TheVariants.{Opened, Shut}
+use Rattle.base_types.specs.declared.states.Allow.{Allow}
+use Rattle.base_types.specs.declared.states.Allow.TheVariants as allow
 use Rattle.gas_model.specs.declared.rows.Decision.{Decision}
 use Rattle.gas_model.specs.declared.rows.Setting.{Setting}
 use Rattle.gas_model.specs.Rows.{Network}

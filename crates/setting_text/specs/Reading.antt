@@ -5,22 +5,22 @@ use Rattle.std.specs.Str.{bytes_eq, is_utf8}
 use Rattle.gas_model.specs.declared.rows.NodeRow.{NodeRow}
 use Rattle.gas_model.specs.declared.rows.ArcKind.{ArcKind}
 use Rattle.gas_model.specs.declared.rows.ArcRow.{ArcRow}
-use Rattle.gas_model.specs.declared.rows.ArcState.{ArcState}
-use Rattle.gas_model.specs.Words.{state_named}
+use Rattle.base_types.specs.declared.states.ArcState.{ArcState}
+use Rattle.base_types.specs.StateWords.{state_named}
 use Rattle.gas_model.specs.declared.rows.Group.{Group}
 use Rattle.gas_model.specs.declared.rows.Setting.{Setting}
 use Rattle.gas_model.specs.Rows.{Network}
-use Rattle.gas_model.specs.Limits.{is_flow, is_square}
+use Rattle.base_types.specs.Numbers.{is_flow, is_square}
 use Rattle.gas_model.specs.Choices.{has_state}
 use Rattle.gas_model.specs.Near.{SettingFits}
 use Rattle.serde_json.specs.Data.{Num, Data, Items, no_items, item}
 use Rattle.serde_json.specs.Events.{members_len}
 use Rattle.serde_json.specs.Find.{at, get, as_str, as_array, as_object, as_number, as_i64}
 use Rattle.serde_json.specs.Read.{read}
-use Rattle.setting_text.specs.declared.fault.Key.{Key}
-use Rattle.setting_text.specs.declared.fault.Key.TheVariants as key
-use Rattle.setting_text.specs.declared.fault.SettingFault.{SettingFault}
-use Rattle.setting_text.specs.declared.fault.SettingFault.TheVariants as fault
+use Rattle.file_faults.specs.declared.setting.Key.{Key}
+use Rattle.file_faults.specs.declared.setting.Key.TheVariants as key
+use Rattle.file_faults.specs.declared.setting.SettingFault.{SettingFault}
+use Rattle.file_faults.specs.declared.setting.SettingFault.TheVariants as fault
 use Rattle.setting_text.specs.declared.entries.ArcEntry.{ArcEntry}
 use Rattle.setting_text.specs.Writing.{setting_data}
 

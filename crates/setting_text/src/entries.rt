@@ -4,8 +4,8 @@ ghost use Rattle.std.specs.Str.{bytes_eq};
 ghost use Rattle.serde_json.specs.View.{view};
 ghost use Rattle.setting_text.specs.Reading.{Gives, of_kind, state_at, arc_entry, decision_place, group_entry, node_entry};
 
-use crate::fault::{Key, SettingFault};
 use crate::values::{is_entry, number_at, text_at};
+use file_faults::{Key, SettingFault};
 use gas_model::{ArcKind, ArcRow, ArcState, Decision, Group, NodeRow, has_state, state_named};
 use serde_json::Value;
 

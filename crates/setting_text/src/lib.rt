@@ -3,7 +3,6 @@
 
 mod entries;
 mod examples;
-mod fault;
 mod laws;
 mod reading;
 #[cfg(test)]
@@ -12,7 +11,7 @@ mod values;
 mod writing;
 
 pub use examples::{line_at_rest, line_backwards};
-pub use fault::{Key, SettingFault};
+pub use file_faults::{Key, SettingFault};
 pub use laws::{read_where_it_stands, text_is_read_back};
 pub use reading::read_setting;
 pub use writing::write_setting;

@@ -6,8 +6,8 @@ ghost use Rattle.serde_json.specs.View.{view};
 ghost use Rattle.setting_text.specs.Reading.{Gives, arc_entry, group_entry, node_entry, read_each, HaveFewDecisions, entry_state, entry_flow, setting_in, setting_of, StandsFor, IsRead};
 
 use crate::entries::{ArcEntry, arc_entry, group_entry, node_entry};
-use crate::fault::{Key, SettingFault};
 use crate::values::{array_of, is_whole, value_of};
+use file_faults::{Key, SettingFault};
 use gas_model::{ArcRow, ArcState, Group, List, NoMemory, NodeRow, Problem, Setting};
 use serde_json::Value;
 use std::alloc::Global;

@@ -1,11 +1,11 @@
 // Looking into values of JSON.
 ghost use Rattle.std.specs.Prelude.{◌≡◌, true, false, length, map, ok_or, option_map, option_and_then, MatchOption, IfOk};
 ghost use Rattle.std.specs.Str.{is_utf8};
-ghost use Rattle.gas_model.specs.Limits.{between};
+ghost use Rattle.base_types.specs.Numbers.{between};
 ghost use Rattle.serde_json.specs.View.{view};
 ghost use Rattle.setting_text.specs.Reading.{Gives, array_at, has_len, text_at, is_text, is_entry, number_at, array_of, has_members, is_whole, value_of};
 
-use crate::fault::{Key, SettingFault};
+use file_faults::{Key, SettingFault};
 use serde_json::Value;
 use std::alloc::Global;
 

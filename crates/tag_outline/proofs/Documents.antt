@@ -3,8 +3,8 @@ use Rattle.std.proofs.Common.{◌≡◌, ℕ, zero, suc, ◌-◌, ◌≤◌, Lis
 use Rattle.std.specs.Prelude.{◌==◌, IfOk, if◌then◌else◌}
 use Rattle.std.specs.Str.{is_utf8}
 use Rattle.std.specs.Str.Lossy.{utf8_valid_len}
-use Rattle.std.proofs.lemmas.Bool.{eqb-true}
-use Rattle.tag_outline.specs.declared.fault.OutlineFault.TheVariants as fault
+use Rattle.std.proofs.lemmas.Bool.{eqb-true, not-false}
+use Rattle.file_faults.specs.declared.outline.OutlineFault.TheVariants as fault
 use Rattle.tag_outline.specs.declared.outline.Element.{Element}
 use Rattle.tag_outline.specs.Scan.{is_space, mark_at, begins}
 use Rattle.tag_outline.specs.Outline.{◌>>=◌, take_piece, Byte, outline_in, after_order_mark, outline_of, Gives}
@@ -12,7 +12,7 @@ use Rattle.tag_outline.specs.Tag.{on_mark}
 use Rattle.tag_outline.specs.Grammar.{WrittenNote, FitsNote, Comment, Instruction, Noted, Opening, Closing, written_item, Content, Empty, Single, Nested, written_content, FitsContent, element, listed, Outside, Space, Remark, written_outside, FitOutside, IsOne, Document, written_body, written, FitsDocument, elements_of, IsOutline}
 use Rattle.tag_outline.proofs.Marks.{begins_true}
 use Rattle.tag_outline.proofs.Items.{space_no_tag}
-use Rattle.tag_outline.proofs.Again.{not_zero}
+use Rattle.tag_outline.proofs.ReadAgain.{not_zero}
 use Rattle.tag_outline.proofs.Written.{item_again}
 use Rattle.tag_outline.proofs.Trees.{Total, state, go, go_byte, go_item, go_end, go_open, go_single, go_close, content_again, nested, left, content_takes, First, first, begun, ended, refused}
 
@@ -154,15 +154,11 @@ ok_is x y e = cc
 made : (bytes : List ℕ) (es : List Element) (d : Document) → outline_of bytes ≡ Ok es → FitsDocument d → bytes ≡ written d → IsOutline bytes es
 made bytes es d k fits is = (d, fits, is, ok_is es (elements_of d) (sym k ∙ ap outline_of is ∙ document_again d fits))
 
-pub not_false : (b : Bool) → not b ≡ false → b ≡ true
-not_false true e = refl
-not_false false e = absurd cc
-
 pub outline_takes : (bytes : List ℕ) (es : List Element) → outline_of bytes ≡ Ok es → IsOutline bytes es
 unfolding outline_of
 outline_takes bytes es k =
     let g = refused (not (is_utf8 bytes)) (fault.NotUtf8 (utf8_valid_len bytes)) (outline_in (length bytes) (after_order_mark bytes)) es k in
-    by (begins (239 ∷ 187 ∷ 191 ∷ []) bytes) refl (not_false _ g.0) g.1
+    by (begins (239 ∷ 187 ∷ 191 ∷ []) bytes) refl (not-false _ g.0) g.1
   where
     by : (v : Bool) → begins (239 ∷ 187 ∷ 191 ∷ []) bytes ≡ v → is_utf8 bytes ≡ true → outline_in (length bytes) (on_mark (cond v (Some (drop 3 bytes)) None) (λ rest. rest) bytes) ≡ Ok es
         → IsOutline bytes es

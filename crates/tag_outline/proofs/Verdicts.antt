@@ -3,8 +3,8 @@ use Rattle.std.proofs.Common.{◌≡◌, ℕ, List, Bool, true, false, Ok, Err, 
 use Rattle.std.specs.Prelude.{IfErr}
 use Rattle.std.specs.Str.{is_utf8}
 use Rattle.std.specs.Str.Lossy.{utf8_valid_len}
-use Rattle.tag_outline.specs.declared.fault.OutlineFault.{OutlineFault}
-use Rattle.tag_outline.specs.declared.fault.OutlineFault.TheVariants as fault
+use Rattle.file_faults.specs.declared.outline.OutlineFault.{OutlineFault}
+use Rattle.file_faults.specs.declared.outline.OutlineFault.TheVariants as fault
 use Rattle.tag_outline.specs.declared.outline.Element.{Element}
 use Rattle.tag_outline.specs.Outline.{outline_of, Gives}
 use Rattle.tag_outline.specs.Grammar.{IsOutline}

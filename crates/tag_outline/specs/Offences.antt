@@ -5,8 +5,8 @@ use Rattle.std.specs.Str.Lossy.{utf8_valid_len}
 use Rattle.tag_outline.specs.declared.outline.Element.{Element}
 use Rattle.tag_outline.specs.declared.fault.ItemFault.{ItemFault}
 use Rattle.tag_outline.specs.declared.fault.ItemFault.TheVariants as item_fault
-use Rattle.tag_outline.specs.declared.fault.OutlineFault.{OutlineFault}
-use Rattle.tag_outline.specs.declared.fault.OutlineFault.TheVariants as fault
+use Rattle.file_faults.specs.declared.outline.OutlineFault.{OutlineFault}
+use Rattle.file_faults.specs.declared.outline.OutlineFault.TheVariants as fault
 use Rattle.tag_outline.specs.Scan.{is_space, begins}
 use Rattle.tag_outline.specs.Outline.{is_last, after_order_mark}
 use Rattle.tag_outline.specs.Grammar.{AreSpaces, IsName, WrittenTag, FitsTag, WrittenItem, Opening, Closing, written_item, FitsItem, Content, written_content, FitsContent, Outside, written_outside, FitOutside, IsOne, IsOutline}

@@ -4,14 +4,14 @@
 
 mod fault;
 mod item;
-mod laws;
+mod of_all_texts;
 mod open;
 mod outline;
 mod scan;
 mod tag;
 
-pub use fault::{FileFault, OutlineFault};
-pub use laws::{each_text, one_verdict};
+pub use file_faults::{FileFault, OutlineFault};
+pub use of_all_texts::{each_text, local_names, one_verdict};
 pub use outline::{Element, Outline, read_outline};
 
 #[cfg(test)]

@@ -4,15 +4,16 @@ ghost use Rattle.tag_outline.specs.Item.{seen};
 ghost use Rattle.tag_outline.specs.declared.outline.Element.{Element};
 ghost use Rattle.tag_outline.specs.Grammar.{IsOutline};
 ghost use Rattle.tag_outline.specs.Offences.{IsOutlineFault, MayFail};
-ghost use Rattle.tag_outline.specs.declared.fault.OutlineFault.{OutlineFault};
+ghost use Rattle.file_faults.specs.declared.outline.OutlineFault.{OutlineFault};
 ghost use Rattle.tag_outline.specs.Outline.{Gives, Fails, StepsTo, local_name, begin, step, located, from_tag, to_item, placed, finish, run, items, outline_in, after_order_mark, outline_of};
 
-use crate::fault::{ItemFault, OutlineFault};
+use crate::fault::ItemFault;
 use crate::item::{Item, item_at};
 use crate::open::OpenNames;
 use crate::scan::{after_spaces, mark_at};
 use crate::tag::cut_at;
-use gas_model::{List, Name};
+use base_types::{List, Name};
+use file_faults::OutlineFault;
 use std::alloc::Global;
 
 const MAX_DEPTH: usize = 64;

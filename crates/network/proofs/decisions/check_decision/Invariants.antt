@@ -1,5 +1,5 @@
 use Rattle.std.proofs.Common.{◌≡◌, drop}
-use Rattle.network.specs.Books.{look}
+use Rattle.name_places.specs.ByName.{look}
 use Rattle.network.specs.Faults.{first_fault}
 use Rattle.network.specs.Decisions.{set_fault}
 use Rattle.network.proofs.decisions.check_decision.Given as goal

@@ -1,11 +1,11 @@
 use Rattle.std.proofs.Common.{arith, refl}
 use Rattle.std.proofs.Math.Path.{fun_ext}
-use Rattle.network.specs.Books.{look}
+use Rattle.name_places.specs.ByName.{look}
 use Rattle.network.proofs.PipeLimits.{limited_more, limited_all}
 use Rattle.network.proofs.limits.pipe_limits.Goals as goal
 
 pub loop-arc-init : goal.loop-arc-init
-loop-arc-init c = rw c.blank-limits.ensures (record { are = λ id. refl })
+loop-arc-init c = rw c.no_values-limits.ensures (record { are = λ id. refl })
 
 pub loop-arc-preserved : goal.loop-arc-preserved
 loop-arc-preserved c =

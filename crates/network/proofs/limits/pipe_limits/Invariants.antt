@@ -1,4 +1,4 @@
-use Rattle.network.specs.Books.{look}
+use Rattle.name_places.specs.ByName.{look}
 use Rattle.network.proofs.PipeLimits.{Limited}
 use Rattle.network.proofs.limits.pipe_limits.Given as goal
 

@@ -1,5 +1,5 @@
 use Rattle.std.proofs.Common.{◌≡◌, cond, not, ◌++◌, ◌∷◌, []}
-use Rattle.gas_model.specs.Rows.{is_among}
+use Rattle.base_types.specs.Names.{is_among}
 use Rattle.network.proofs.Marked.{added, on_pipes, on_resistors, on_stations, when_ok}
 use Rattle.network.proofs.marks.mark.Goals as goal
 

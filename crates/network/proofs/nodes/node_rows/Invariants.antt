@@ -1,5 +1,5 @@
 use Rattle.std.proofs.Common.{◌≡◌, take, map}
-use Rattle.network.specs.Books.{look}
+use Rattle.name_places.specs.ByName.{look}
 use Rattle.network.specs.Nodes.{node_row}
 use Rattle.network.proofs.nodes.node_rows.Given as goal
 

@@ -1,6 +1,6 @@
 use Rattle.std.proofs.Common.{◌≡◌, take, drop, map}
 use Rattle.gas_model.specs.Rows.{first_offence}
-use Rattle.network.specs.Books.{look}
+use Rattle.name_places.specs.ByName.{look}
 use Rattle.network.specs.Nodes.{nominated_id, nomination_fault, nominations_fault}
 use Rattle.network.proofs.nominations.check_nominations.Given as goal
 

@@ -1,8 +1,8 @@
 -- A fault of an outline as one of a file.
-use Rattle.tag_outline.specs.declared.fault.OutlineFault.{OutlineFault}
-use Rattle.tag_outline.specs.declared.fault.OutlineFault.TheVariants as outline_fault
-use Rattle.tag_outline.specs.declared.fault.FileFault.{FileFault}
-use Rattle.tag_outline.specs.declared.fault.FileFault.TheVariants as file_fault
+use Rattle.file_faults.specs.declared.outline.OutlineFault.{OutlineFault}
+use Rattle.file_faults.specs.declared.outline.OutlineFault.TheVariants as outline_fault
+use Rattle.file_faults.specs.declared.outline.FileFault.{FileFault}
+use Rattle.file_faults.specs.declared.outline.FileFault.TheVariants as file_fault
 
 -- want of memory is never held in another fault
 abbrev pub held : OutlineFault → FileFault

@@ -1,5 +1,5 @@
 use Rattle.res_table.proofs.Spelled.{rows_are_spelled, spellings_are_read}
-use Rattle.res_table.proofs.laws.rows_have_their_form.Goals as goal
+use Rattle.res_table.proofs.row_form.rows_have_their_form.Goals as goal
 
 pub returns-clause-spelled : goal.returns-clause-spelled
 returns-clause-spelled c = rows_are_spelled

@@ -1,8 +1,8 @@
 // Why bytes are no setting.
 ghost use Rattle.std.specs.Prelude.{◌≡◌};
-ghost use Rattle.setting_text.specs.declared.fault.SettingFault.TheVariants as fault;
+ghost use Rattle.file_faults.specs.declared.setting.SettingFault.TheVariants as fault;
 
-use gas_model::NoMemory;
+use base_types::NoMemory;
 
 /// A list of a setting, or its whole.
 #[derive(Clone, Copy, Debug, PartialEq, Eq)]
