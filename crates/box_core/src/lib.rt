@@ -4,6 +4,3 @@
 mod var_box;
 
 pub use var_box::VarBox;
-
-#[cfg(test)]
-mod tests;

@@ -7,7 +7,7 @@ use Rattle.std.proofs.lemmas.List.Sums.{fails_before_first}
 use borrow.Author.Tests.{ltb-true, lt-ltb}
 use Rattle.integer_laws.proofs.Ring.{linear}
 use Rattle.gas_model.specs.declared.rows.Ends.{Ends}
-use Rattle.gas_model.specs.declared.rows.Var.TheVariants.{Flow, Square}
+use Rattle.base_types.specs.declared.variables.Var.TheVariants.{Flow, Square}
 use Rattle.gas_model.specs.Boxes.{Bounds, no_ends, is_empty, ends_of}
 use Rattle.box_ends.specs.Empty.{LeavesAll, LeavesNone}
 

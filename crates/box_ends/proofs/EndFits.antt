@@ -6,7 +6,7 @@ use Rattle.integer_laws.proofs.Ring.{linear, mul_le_left, mul_neg, mul_zero, squ
 use Rattle.integer_laws.proofs.SizeLemmas.{within_fits, product_within}
 use Rattle.gas_model.specs.declared.rows.ArcRow.{ArcRow}
 use Rattle.gas_model.specs.declared.rows.NodeRow.{NodeRow}
-use Rattle.gas_model.specs.Limits.{is_flow, is_pressure}
+use Rattle.base_types.specs.Numbers.{is_flow, is_pressure}
 use Rattle.gas_model.specs.Curves.{square}
 use Rattle.gas_model.specs.Boxes.{flow_ends, square_ends}
 use Rattle.gas_model.specs.BoxLimits.{IsScale, AreFlowEnds, AreSquareEnds}
@@ -62,16 +62,16 @@ square_fits K p k t =
       product = within_fits (16 * (10 ^ 8 * 10 ^ 8)) (K *ℤ square p) (product_within K (square p) 16 (10 ^ 8 * 10 ^ 8) (scale_size K k) squared_size) (lit≤ tt);
     }
 
-scaled_square : (K p : ℤ) → IsScale K → IsTrue (is_pressure p) → (pos 0 ≤ℤ (K *ℤ square p)) × ((K *ℤ square p) ≤ℤ (K *ℤ pos (10 ^ 16)))
-scaled_square K p k t =
+square_limited : (K p : ℤ) → IsScale K → IsTrue (is_pressure p) → (pos 0 ≤ℤ (K *ℤ square p)) × ((K *ℤ square p) ≤ℤ (K *ℤ pos (10 ^ 16)))
+square_limited K p k t =
     let most = square_le p (pos (10 ^ 8)) (pressure_from p t) (pressure_most p t) in
     let s = scaled K (pos 0) (pos (10 ^ 16)) (square p) k (square_nonneg p) most in
     (omega (arith, linear, s.0, mul_zero K), s.1)
 
 pub square_ends_limited : (K : ℤ) (node : NodeRow) → IsScale K → IsTrue (is_pressure node.p_min) → IsTrue (is_pressure node.p_max) → AreSquareEnds K (square_ends K node)
 square_ends_limited K node k s t =
-    let low = scaled_square K node.p_min k s in
-    let high = scaled_square K node.p_max k t in
+    let low = square_limited K node.p_min k s in
+    let high = square_limited K node.p_max k t in
     record {
       low_from = low.0;
       low_to = omega (arith, linear, low.1);

@@ -8,8 +8,8 @@ use Rattle.gas_model.specs.declared.rows.Ends.{Ends}
 use Rattle.gas_model.specs.Rows.{Network}
 use Rattle.gas_model.specs.Within.{IsWithin}
 use Rattle.gas_model.specs.Boxes.{no_ends, flow_ends, square_ends, with_end, may_become}
-use Rattle.gas_model.specs.declared.rows.Var.{Var}
-use Rattle.gas_model.specs.declared.rows.Var.TheVariants.{Flow, Square}
+use Rattle.base_types.specs.declared.variables.Var.{Var}
+use Rattle.base_types.specs.declared.variables.Var.TheVariants.{Flow, Square}
 use Rattle.gas_model.specs.BoxLimits.{IsScale, LieWithin, AreFlowEnds, AreSquareEnds, AreLimited}
 use Rattle.gas_model.proofs.LimitFacts.{row_flows, node_pressures}
 use Rattle.box_ends.specs.Scaled.{AreHeld}

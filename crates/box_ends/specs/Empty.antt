@@ -1,6 +1,6 @@
 -- Whether a box leaves a value to each variable.
 use Rattle.std.specs.Prelude.{◌≤ℤ◌, ◌<ℤ◌, IsTrue}
-use Rattle.gas_model.specs.declared.rows.Var.{Var}
+use Rattle.base_types.specs.declared.variables.Var.{Var}
 use Rattle.gas_model.specs.Boxes.{Bounds, ends_of, is_in_box}
 
 -- no lower end is above its upper end

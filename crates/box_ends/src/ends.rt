@@ -1,11 +1,13 @@
 // The ends of one variable, and lists of them.
-ghost use Rattle.std.specs.Prelude.{◌≡◌, ◌≤◌, ◌*ℤ◌, length, map, position, IfOk, OnOk, IsTrue};
-ghost use Rattle.gas_model.specs.Limits.{is_flow, is_pressure};
+ghost use Rattle.std.specs.Prelude.{◌≡◌, ◌≤◌, ◌^◌, ◌*ℤ◌, length, map, position, IfOk, OnOk, IsTrue};
+ghost use Rattle.base_types.specs.Numbers.{is_difference, is_flow, is_pressure};
 ghost use Rattle.gas_model.specs.Curves.{square};
 ghost use Rattle.gas_model.specs.Boxes.{flow_ends, square_ends, with_end, is_empty};
 ghost use Rattle.gas_model.specs.BoxLimits.{IsScale, AreFlowEnds, AreSquareEnds};
-ghost use Rattle.gas_model.specs.Within.{IsWithin};
+ghost use Rattle.gas_model.specs.Within.{IsWithin as AreWithin};
+ghost use Rattle.integer_laws.specs.Sizes.{IsWithin};
 ghost use Rattle.box_ends.specs.Scaled.{AreHeld};
+ghost use Rattle.box_ends.specs.Middle.{middle};
 
 use gas_model::{ArcRow, Ends, NoMemory, NodeRow, Problem};
 use std::alloc::Global;
@@ -23,10 +25,11 @@ fn flow_ends(scale: i128, row: &ArcRow) -> Ends
     }
 }
 
-// The square of a pressure, in units of 1/scale.
-fn scaled_square(scale: i128, pressure: i64) -> i128
+/// The square of a pressure in Pa, in units of 1/scale of a Pa^2. The pressure lies from 0 to 4 * 10^8, and the scale is 1
+/// or 16.
+pub fn scaled_square(scale: i128, pressure: i64) -> i128
     requires scale { IsScale scale }
-    requires pressure { IsTrue (is_pressure pressure) }
+    requires pressure { IsTrue (is_difference pressure) }
     ensures { result ≡ scale *ℤ square pressure }
 {
     let pressure = pressure as i128;
@@ -51,7 +54,7 @@ pub fn all_flow_ends(alloc: Global, scale: i128, p: &Problem) -> Result<Vec<Ends
     requires { IsScale scale }
     ensures value { IfOk result (λ all. all.items ≡ map (flow_ends scale) p.now.arcs) }
     ensures held { IfOk result (λ all. AreHeld (AreFlowEnds scale) all.items) }
-    ensures within { OnOk result (IsWithin p.now) }
+    ensures within { OnOk result (AreWithin p.now) }
 {
     let mut all = Vec::new(alloc);
     for row in p.arcs() {
@@ -98,4 +101,13 @@ pub fn place_of_empty(all: &[Ends]) -> Option<u32>
 {
     let place = first_empty(all)?;
     Some(place as u32)
+}
+
+/// Half of both ends, rounded down. Each end lies within 2^100.
+pub fn middle(ends: Ends) -> i128
+    requires low { IsWithin (2 ^ 100) ends.lo }
+    requires high { IsWithin (2 ^ 100) ends.hi }
+    ensures { result ≡ middle ends }
+{
+    (ends.lo + ends.hi).div_euclid(2)
 }

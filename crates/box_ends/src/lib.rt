@@ -5,5 +5,5 @@
 mod ends;
 mod scaled;
 
-pub use ends::with_end;
+pub use ends::{middle, scaled_square, with_end};
 pub use scaled::ScaledBox;

@@ -3,13 +3,14 @@ use Rattle.std.proofs.Common.{◌≡◌, ◌<◌, arith, IsTrue, ℤ}
 use Rattle.gas_model.specs.declared.rows.ArcRow.{ArcRow}
 use Rattle.gas_model.specs.declared.rows.ArcKind.{ArcKind}
 use Rattle.gas_model.specs.declared.rows.ArcKind.TheVariants as kinds
-use Rattle.gas_model.specs.declared.rows.ArcState.{ArcState}
-use Rattle.gas_model.specs.declared.rows.ArcState.TheVariants.{Opened, Shut, Active, Bypass}
-use Rattle.gas_model.specs.Limits.{is_kind_within, is_difference, is_pressure, is_ratio_part}
+use Rattle.base_types.specs.declared.states.ArcState.{ArcState}
+use Rattle.base_types.specs.declared.states.ArcState.TheVariants.{Opened, Shut, Active, Bypass}
+use Rattle.gas_model.specs.Limits.{is_kind_within}
+use Rattle.base_types.specs.Numbers.{is_difference, is_pressure, is_ratio_part}
 use Rattle.gas_model.specs.Within.{is_row_within}
 use Rattle.gas_model.specs.Laws.{form_of}
 use Rattle.integer_laws.proofs.Ring.{linear}
-use Rattle.box_rules.specs.ArcSides.{IsFormWithin}
+use Rattle.box_rules.specs.ArcLimits.{IsFormWithin}
 
 pressure_difference : (x : ℤ) → IsTrue (is_pressure x) → IsTrue (is_difference x)
 pressure_difference x t = grind (arith, linear)

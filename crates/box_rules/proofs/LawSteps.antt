@@ -2,11 +2,13 @@
 use Rattle.std.proofs.Common.{◌≡◌, ℕ, ℤ, Bool, false, Some, None, ap, ◌∙◌}
 use Rattle.std.specs.Option.{option_map_or}
 use Rattle.gas_model.specs.declared.rows.ArcRow.{ArcRow}
-use Rattle.gas_model.specs.declared.rows.Var.{Var}
+use Rattle.base_types.specs.declared.variables.Var.{Var}
 use Rattle.gas_model.specs.Rows.{Network}
-use Rattle.gas_model.specs.Laws.{LawForm}
+use Rattle.gas_model.specs.declared.law_forms.LawForm.{LawForm}
 use Rattle.tree_cert.specs.declared.line.Rule.{Rule}
-use Rattle.tree_rules.specs.ArcRules.{ArcEnds, ArcVar, arc_step, arc_closing}
+use Rattle.tree_rules.specs.declared.arc_vars.ArcEnds.{ArcEnds}
+use Rattle.tree_rules.specs.declared.arc_vars.ArcVar.{ArcVar}
+use Rattle.tree_rules.specs.ArcRules.{arc_step, arc_closing}
 use Rattle.tree_rules.specs.Rules.{PartBox, arc_ends, arc_var, fixed_form, form_step, row_step, row_closing}
 
 pub no_law_step : (p : Network) (b : PartBox) (rule : Rule) (a : ℕ) (var : Var) (low : Bool) (C : ℤ) (row : ArcRow) → None ≡ fixed_form p b.part a row → false ≡ row_step p b rule a var low C row

@@ -8,7 +8,7 @@ use Rattle.integer_laws.proofs.SizeLemmas.{within_parts, one_part, within_fits, 
 use Rattle.gas_model.specs.declared.rows.ArcRow.{ArcRow}
 use Rattle.gas_model.specs.declared.rows.Ends.{Ends}
 use Rattle.gas_model.specs.declared.rows.NodeRow.{NodeRow}
-use Rattle.gas_model.specs.Limits.{is_flow}
+use Rattle.base_types.specs.Numbers.{is_flow}
 use Rattle.gas_model.specs.Points.{sum_out, sum_in}
 use Rattle.element_laws.specs.Sizes.{most_flow}
 use Rattle.gas_model.proofs.LimitFacts.{flow_size, scale_size}

@@ -1,12 +1,14 @@
 -- Rules that say nothing of a law.
 use Rattle.std.proofs.Common.{◌≡◌, ◌≢◌, ℤ, Bool, false, refl}
-use Rattle.gas_model.specs.declared.rows.Drag.{Drag}
-use Rattle.gas_model.specs.Laws.{drags, equals, shuts, loses, reduces, raises, never}
+use Rattle.gas_model.specs.declared.law_forms.PipeLaw.{PipeLaw}
+use Rattle.gas_model.specs.declared.law_forms.LawForm.TheVariants.{Drags, Equals, Shuts, Loses, Reduces, Raises, Never}
 use Rattle.tree_cert.specs.declared.line.Rule.{Rule}
 use Rattle.tree_cert.specs.declared.line.Rule.TheVariants as rules
-use Rattle.tree_rules.specs.ArcRules.{ArcEnds, ArcVar, arc_step, arc_closing}
+use Rattle.tree_rules.specs.declared.arc_vars.ArcEnds.{ArcEnds}
+use Rattle.tree_rules.specs.declared.arc_vars.ArcVar.{ArcVar}
+use Rattle.tree_rules.specs.ArcRules.{arc_step, arc_closing}
 
-pub drags_step_else : (rule : Rule) (law : Drag) (K : ℤ) (e : ArcEnds) (x : ArcVar) (low : Bool) (C : ℤ) → rule ≢ rules.Pipe → arc_step rule (drags law) K e x low C ≡ false
+pub drags_step_else : (rule : Rule) (law : PipeLaw) (K : ℤ) (e : ArcEnds) (x : ArcVar) (low : Bool) (C : ℤ) → rule ≢ rules.Pipe → arc_step rule (Drags law) K e x low C ≡ false
 drags_step_else rules.Balance law K e x low C n0 = refl
 drags_step_else rules.Pipe law K e x low C n0 = absurd (n0 refl)
 drags_step_else rules.Equal law K e x low C n0 = refl
@@ -22,7 +24,7 @@ drags_step_else rules.Reach law K e x low C n0 = refl
 drags_step_else rules.Along law K e x low C n0 = refl
 drags_step_else rules.Drop law K e x low C n0 = refl
 
-pub drags_closing_else : (rule : Rule) (law : Drag) (K : ℤ) (e : ArcEnds) → rule ≢ rules.Pipe → arc_closing rule (drags law) K e ≡ false
+pub drags_closing_else : (rule : Rule) (law : PipeLaw) (K : ℤ) (e : ArcEnds) → rule ≢ rules.Pipe → arc_closing rule (Drags law) K e ≡ false
 drags_closing_else rules.Balance law K e n0 = refl
 drags_closing_else rules.Pipe law K e n0 = absurd (n0 refl)
 drags_closing_else rules.Equal law K e n0 = refl
@@ -38,7 +40,7 @@ drags_closing_else rules.Reach law K e n0 = refl
 drags_closing_else rules.Along law K e n0 = refl
 drags_closing_else rules.Drop law K e n0 = refl
 
-pub equals_step_else : (rule : Rule) (K : ℤ) (e : ArcEnds) (x : ArcVar) (low : Bool) (C : ℤ) → rule ≢ rules.Equal → arc_step rule equals K e x low C ≡ false
+pub equals_step_else : (rule : Rule) (K : ℤ) (e : ArcEnds) (x : ArcVar) (low : Bool) (C : ℤ) → rule ≢ rules.Equal → arc_step rule Equals K e x low C ≡ false
 equals_step_else rules.Balance K e x low C n0 = refl
 equals_step_else rules.Pipe K e x low C n0 = refl
 equals_step_else rules.Equal K e x low C n0 = absurd (n0 refl)
@@ -54,7 +56,7 @@ equals_step_else rules.Reach K e x low C n0 = refl
 equals_step_else rules.Along K e x low C n0 = refl
 equals_step_else rules.Drop K e x low C n0 = refl
 
-pub equals_closing_else : (rule : Rule) (K : ℤ) (e : ArcEnds) → arc_closing rule equals K e ≡ false
+pub equals_closing_else : (rule : Rule) (K : ℤ) (e : ArcEnds) → arc_closing rule Equals K e ≡ false
 equals_closing_else rules.Balance K e = refl
 equals_closing_else rules.Pipe K e = refl
 equals_closing_else rules.Equal K e = refl
@@ -70,7 +72,7 @@ equals_closing_else rules.Reach K e = refl
 equals_closing_else rules.Along K e = refl
 equals_closing_else rules.Drop K e = refl
 
-pub shuts_step_else : (rule : Rule) (K : ℤ) (e : ArcEnds) (x : ArcVar) (low : Bool) (C : ℤ) → rule ≢ rules.Zero → arc_step rule shuts K e x low C ≡ false
+pub shuts_step_else : (rule : Rule) (K : ℤ) (e : ArcEnds) (x : ArcVar) (low : Bool) (C : ℤ) → rule ≢ rules.Zero → arc_step rule Shuts K e x low C ≡ false
 shuts_step_else rules.Balance K e x low C n0 = refl
 shuts_step_else rules.Pipe K e x low C n0 = refl
 shuts_step_else rules.Equal K e x low C n0 = refl
@@ -86,7 +88,7 @@ shuts_step_else rules.Reach K e x low C n0 = refl
 shuts_step_else rules.Along K e x low C n0 = refl
 shuts_step_else rules.Drop K e x low C n0 = refl
 
-pub shuts_closing_else : (rule : Rule) (K : ℤ) (e : ArcEnds) → arc_closing rule shuts K e ≡ false
+pub shuts_closing_else : (rule : Rule) (K : ℤ) (e : ArcEnds) → arc_closing rule Shuts K e ≡ false
 shuts_closing_else rules.Balance K e = refl
 shuts_closing_else rules.Pipe K e = refl
 shuts_closing_else rules.Equal K e = refl
@@ -102,7 +104,7 @@ shuts_closing_else rules.Reach K e = refl
 shuts_closing_else rules.Along K e = refl
 shuts_closing_else rules.Drop K e = refl
 
-pub loses_step_else : (rule : Rule) (l h : ℤ) (K : ℤ) (e : ArcEnds) (x : ArcVar) (low : Bool) (C : ℤ) → rule ≢ rules.Sign → rule ≢ rules.Reach → rule ≢ rules.Along → rule ≢ rules.Drop → arc_step rule (loses l h) K e x low C ≡ false
+pub loses_step_else : (rule : Rule) (l h : ℤ) (K : ℤ) (e : ArcEnds) (x : ArcVar) (low : Bool) (C : ℤ) → rule ≢ rules.Sign → rule ≢ rules.Reach → rule ≢ rules.Along → rule ≢ rules.Drop → arc_step rule (Loses l h) K e x low C ≡ false
 loses_step_else rules.Balance l h K e x low C n0 n1 n2 n3 = refl
 loses_step_else rules.Pipe l h K e x low C n0 n1 n2 n3 = refl
 loses_step_else rules.Equal l h K e x low C n0 n1 n2 n3 = refl
@@ -118,7 +120,7 @@ loses_step_else rules.Reach l h K e x low C n0 n1 n2 n3 = absurd (n1 refl)
 loses_step_else rules.Along l h K e x low C n0 n1 n2 n3 = absurd (n2 refl)
 loses_step_else rules.Drop l h K e x low C n0 n1 n2 n3 = absurd (n3 refl)
 
-pub loses_closing_else : (rule : Rule) (l h : ℤ) (K : ℤ) (e : ArcEnds) → rule ≢ rules.Reach → rule ≢ rules.Drop → arc_closing rule (loses l h) K e ≡ false
+pub loses_closing_else : (rule : Rule) (l h : ℤ) (K : ℤ) (e : ArcEnds) → rule ≢ rules.Reach → rule ≢ rules.Drop → arc_closing rule (Loses l h) K e ≡ false
 loses_closing_else rules.Balance l h K e n0 n1 = refl
 loses_closing_else rules.Pipe l h K e n0 n1 = refl
 loses_closing_else rules.Equal l h K e n0 n1 = refl
@@ -134,7 +136,7 @@ loses_closing_else rules.Reach l h K e n0 n1 = absurd (n0 refl)
 loses_closing_else rules.Along l h K e n0 n1 = refl
 loses_closing_else rules.Drop l h K e n0 n1 = absurd (n1 refl)
 
-pub reduces_step_else : (rule : Rule) (a b c d : ℤ) (K : ℤ) (e : ArcEnds) (x : ArcVar) (low : Bool) (C : ℤ) → rule ≢ rules.Way → rule ≢ rules.Inner → rule ≢ rules.Fall → arc_step rule (reduces a b c d) K e x low C ≡ false
+pub reduces_step_else : (rule : Rule) (a b c d : ℤ) (K : ℤ) (e : ArcEnds) (x : ArcVar) (low : Bool) (C : ℤ) → rule ≢ rules.Way → rule ≢ rules.Inner → rule ≢ rules.Fall → arc_step rule (Reduces a b c d) K e x low C ≡ false
 reduces_step_else rules.Balance a b c d K e x low C n0 n1 n2 = refl
 reduces_step_else rules.Pipe a b c d K e x low C n0 n1 n2 = refl
 reduces_step_else rules.Equal a b c d K e x low C n0 n1 n2 = refl
@@ -150,7 +152,7 @@ reduces_step_else rules.Reach a b c d K e x low C n0 n1 n2 = refl
 reduces_step_else rules.Along a b c d K e x low C n0 n1 n2 = refl
 reduces_step_else rules.Drop a b c d K e x low C n0 n1 n2 = refl
 
-pub reduces_closing_else : (rule : Rule) (a b c d : ℤ) (K : ℤ) (e : ArcEnds) → rule ≢ rules.Fall → arc_closing rule (reduces a b c d) K e ≡ false
+pub reduces_closing_else : (rule : Rule) (a b c d : ℤ) (K : ℤ) (e : ArcEnds) → rule ≢ rules.Fall → arc_closing rule (Reduces a b c d) K e ≡ false
 reduces_closing_else rules.Balance a b c d K e n0 = refl
 reduces_closing_else rules.Pipe a b c d K e n0 = refl
 reduces_closing_else rules.Equal a b c d K e n0 = refl
@@ -166,7 +168,7 @@ reduces_closing_else rules.Reach a b c d K e n0 = refl
 reduces_closing_else rules.Along a b c d K e n0 = refl
 reduces_closing_else rules.Drop a b c d K e n0 = refl
 
-pub raises_step_else : (rule : Rule) (a b c d r : ℤ) (K : ℤ) (e : ArcEnds) (x : ArcVar) (low : Bool) (C : ℤ) → rule ≢ rules.Way → rule ≢ rules.Inner → rule ≢ rules.Order → rule ≢ rules.Rise → rule ≢ rules.Ratio → arc_step rule (raises a b c d r) K e x low C ≡ false
+pub raises_step_else : (rule : Rule) (a b c d r : ℤ) (K : ℤ) (e : ArcEnds) (x : ArcVar) (low : Bool) (C : ℤ) → rule ≢ rules.Way → rule ≢ rules.Inner → rule ≢ rules.Order → rule ≢ rules.Rise → rule ≢ rules.Ratio → arc_step rule (Raises a b c d r) K e x low C ≡ false
 raises_step_else rules.Balance a b c d r K e x low C n0 n1 n2 n3 n4 = refl
 raises_step_else rules.Pipe a b c d r K e x low C n0 n1 n2 n3 n4 = refl
 raises_step_else rules.Equal a b c d r K e x low C n0 n1 n2 n3 n4 = refl
@@ -182,7 +184,7 @@ raises_step_else rules.Reach a b c d r K e x low C n0 n1 n2 n3 n4 = refl
 raises_step_else rules.Along a b c d r K e x low C n0 n1 n2 n3 n4 = refl
 raises_step_else rules.Drop a b c d r K e x low C n0 n1 n2 n3 n4 = refl
 
-pub raises_closing_else : (rule : Rule) (a b c d r : ℤ) (K : ℤ) (e : ArcEnds) → rule ≢ rules.Rise → rule ≢ rules.Ratio → arc_closing rule (raises a b c d r) K e ≡ false
+pub raises_closing_else : (rule : Rule) (a b c d r : ℤ) (K : ℤ) (e : ArcEnds) → rule ≢ rules.Rise → rule ≢ rules.Ratio → arc_closing rule (Raises a b c d r) K e ≡ false
 raises_closing_else rules.Balance a b c d r K e n0 n1 = refl
 raises_closing_else rules.Pipe a b c d r K e n0 n1 = refl
 raises_closing_else rules.Equal a b c d r K e n0 n1 = refl
@@ -198,7 +200,7 @@ raises_closing_else rules.Reach a b c d r K e n0 n1 = refl
 raises_closing_else rules.Along a b c d r K e n0 n1 = refl
 raises_closing_else rules.Drop a b c d r K e n0 n1 = refl
 
-pub never_step_else : (rule : Rule) (K : ℤ) (e : ArcEnds) (x : ArcVar) (low : Bool) (C : ℤ) → arc_step rule never K e x low C ≡ false
+pub never_step_else : (rule : Rule) (K : ℤ) (e : ArcEnds) (x : ArcVar) (low : Bool) (C : ℤ) → arc_step rule Never K e x low C ≡ false
 never_step_else rules.Balance K e x low C = refl
 never_step_else rules.Pipe K e x low C = refl
 never_step_else rules.Equal K e x low C = refl
@@ -214,7 +216,7 @@ never_step_else rules.Reach K e x low C = refl
 never_step_else rules.Along K e x low C = refl
 never_step_else rules.Drop K e x low C = refl
 
-pub never_closing_else : (rule : Rule) (K : ℤ) (e : ArcEnds) → arc_closing rule never K e ≡ false
+pub never_closing_else : (rule : Rule) (K : ℤ) (e : ArcEnds) → arc_closing rule Never K e ≡ false
 never_closing_else rules.Balance K e = refl
 never_closing_else rules.Pipe K e = refl
 never_closing_else rules.Equal K e = refl

@@ -1,5 +1,5 @@
 -- What the flows at a node leave to one of them.
-use Rattle.std.specs.Prelude.{ℕ, ◌*◌, ℤ, ◌+ℤ◌, ◌-ℤ◌, ◌*ℤ◌, List, Bool, true, false, int_le}
+use Rattle.std.specs.Prelude.{ℕ, ◌*◌, ℤ, ◌+ℤ◌, ◌-ℤ◌, ◌*ℤ◌, List, Bool, true, false, if◌then◌else◌, int_le}
 use Rattle.gas_model.specs.declared.rows.ArcRow.{ArcRow}
 use Rattle.gas_model.specs.declared.rows.Ends.{Ends}
 use Rattle.gas_model.specs.declared.rows.NodeRow.{NodeRow}
@@ -29,6 +29,10 @@ leaves_with supply net q false C = int_le (supply.hi -ℤ net.lo +ℤ q.lo) C
 abbrev pub enters_with : (supply net q : Ends) → (low : Bool) → (C : ℤ) → Bool
 enters_with supply net q true C = int_le C (net.lo -ℤ supply.hi +ℤ q.hi)
 enters_with supply net q false C = int_le (net.hi -ℤ supply.lo +ℤ q.lo) C
+
+-- the balance lets an end of the flow q become C, where the flow leaves the node or enters it
+abbrev pub balance_lets : (leaves : Bool) → (supply net q : Ends) → (low : Bool) → (C : ℤ) → Bool
+balance_lets leaves supply net q low C = if leaves then leaves_with supply net q low C else enters_with supply net q low C
 
 -- sums of as many flows as a problem has
 pub record AreSums (e : Ends) : Type 0 where

@@ -1,2 +1,2 @@
-pub mod ArcSides
+pub mod ArcLimits
 pub mod Balance

@@ -1,14 +1,15 @@
 // The balance of a node: what leaves it less what enters it, and whether that is beyond its supply.
-ghost use Rattle.std.specs.Prelude.{◌≡◌, ◌<◌, ◌==◌, ◌*◌, ◌+ℤ◌, ◌-ℤ◌, ◌*ℤ◌, ◌||◌, int_lt, neg_ℤ, if◌then◌else◌, length, slice_get, Some, IsTrue};
+ghost use Rattle.std.specs.Prelude.{◌≡◌, ◌<◌, ◌==◌, ◌*◌, ◌+ℤ◌, ◌-ℤ◌, ◌*ℤ◌, ◌||◌, ℤ, int_lt, neg_ℤ, if◌then◌else◌, length, slice_get, Some, IsTrue};
 ghost use Rattle.gas_model.specs.BoxLimits.{IsScale};
 ghost use Rattle.gas_model.specs.Boxes.{BoxFits};
-ghost use Rattle.gas_model.specs.Limits.{is_flow};
+ghost use Rattle.base_types.specs.Numbers.{is_flow};
 ghost use Rattle.gas_model.specs.Within.{IsWithin as AreWithin};
 ghost use Rattle.integer_laws.specs.Sizes.{IsWithin};
 ghost use Rattle.element_laws.specs.Sizes.{most_flow, AreSafeFlows};
 ghost use Rattle.tree_rules.specs.NodeRules as node_rule;
 ghost use Rattle.tree_rules.specs.Rules.{flow_lo, flow_hi};
-ghost use Rattle.box_rules.specs.Balance.{net_low, net_high, supply_of, AreSums};
+ghost use Rattle.box_rules.specs.Balance.{net_low, net_high, supply_of, balance_lets, AreSums};
+ghost use Rattle.tree_rules.specs.Looser.{reaches};
 
 use box_ends::ScaledBox;
 use gas_model::{ArcRow, Ends, NodeRow, Problem, Var};
@@ -77,14 +78,35 @@ pub fn supply_of(scale: i128, node: &NodeRow) -> Ends
     Ends { lo, hi }
 }
 
-/// A difference and a flow.
-pub fn left_over(x: i128, y: i128, q: i128) -> i128
+// A difference and a flow.
+fn left_over(x: i128, y: i128, q: i128) -> i128
     requires x { IsWithin (2000 * most_flow) x }
     requires y { IsWithin (2000 * most_flow) y }
     requires q { IsWithin most_flow q }
     ensures { result ≡ x -ℤ y +ℤ q }
 {
     x - y + q
+}
+
+/// Up to where the balance lets an end of a flow go: the sums over all arcs leave to it what the supply lacks, and what
+/// it gives by itself.
+pub fn balance_bound(leaves: bool, supply: Ends, net: Ends, q: Ends, low: bool) -> i128
+    requires supply { AreSums supply }
+    requires net { AreSums net }
+    requires flow { AreSafeFlows q }
+    ensures { (C : ℤ) → reaches low result C ≡ balance_lets leaves supply net q low C }
+{
+    if leaves {
+        if low {
+            left_over(supply.lo, net.hi, q.hi)
+        } else {
+            left_over(supply.hi, net.lo, q.lo)
+        }
+    } else if low {
+        left_over(net.lo, supply.hi, q.hi)
+    } else {
+        left_over(net.hi, supply.lo, q.lo)
+    }
 }
 
 // Whether the supply lies beyond the net flow.

@@ -2,78 +2,54 @@
 ghost use Rattle.std.specs.Prelude.{◌≡◌};
 ghost use Rattle.gas_model.specs.declared.rows.ArcKind.TheVariants.{Valve};
 ghost use Rattle.gas_model.specs.Laws.{form_of};
-ghost use Rattle.box_rules.specs.ArcSides.{law_of_form, opened_form, active_form};
+ghost use Rattle.box_rules.specs.ArcLimits.{opened_form, active_form};
 
-use gas_model::{ArcKind, ArcState, Drag};
-
-/// What the law of an arc speaks of, with its numbers: pressures, losses and rises in Pa.
-#[derive(Clone, Copy, Debug, PartialEq, Eq)]
-pub enum Form {
-    Drags(Drag),
-    Equals,
-    Shuts,
-    Loses {
-        low: i64,
-        high: i64,
-    },
-    Reduces {
-        in_min: i64,
-        out_max: i64,
-        red_min: i64,
-        red_max: i64,
-    },
-    Raises {
-        in_min: i64,
-        out_max: i64,
-        ratio_num: i64,
-        ratio_den: i64,
-        rise_max: i64,
-    },
-    Never,
-}
+use gas_model::{ArcKind, ArcState, LawForm, level};
 
 // The law of a kind that has one state.
-fn opened_form(form: Form, state: ArcState) -> Form
+fn opened_form(form: LawForm, state: ArcState) -> LawForm
     ensures { result ≡ opened_form form state }
 {
     match state {
         ArcState::Opened => form,
-        ArcState::Shut | ArcState::Active | ArcState::Bypass => Form::Never,
+        ArcState::Shut | ArcState::Active | ArcState::Bypass => LawForm::Never,
     }
 }
 
 // The law of a kind that may be active, which then is this one.
-fn active_form(form: Form, state: ArcState) -> Form
+fn active_form(form: LawForm, state: ArcState) -> LawForm
     ensures { result ≡ active_form form state }
 {
     match state {
         ArcState::Active => form,
-        ArcState::Bypass => Form::Equals,
-        ArcState::Shut => Form::Shuts,
-        ArcState::Opened => Form::Never,
+        ArcState::Bypass => LawForm::Equals,
+        ArcState::Shut => LawForm::Shuts,
+        ArcState::Opened => LawForm::Never,
     }
 }
 
 // The law of a valve.
-fn valve_form(state: ArcState) -> Form
-    ensures { law_of_form result ≡ form_of Valve state }
+fn valve_form(state: ArcState) -> LawForm
+    ensures { result ≡ form_of Valve state }
 {
     match state {
-        ArcState::Opened => Form::Equals,
-        ArcState::Shut => Form::Shuts,
-        ArcState::Active | ArcState::Bypass => Form::Never,
+        ArcState::Opened => LawForm::Equals,
+        ArcState::Shut => LawForm::Shuts,
+        ArcState::Active | ArcState::Bypass => LawForm::Never,
     }
 }
 
 /// The law of a kind in a state.
-pub fn form_of(kind: &ArcKind, state: ArcState) -> Form
-    ensures { law_of_form result ≡ form_of kind.now state }
+pub fn form_of(kind: &ArcKind, state: ArcState) -> LawForm
+    ensures { result ≡ form_of kind.now state }
 {
     match kind {
-        ArcKind::Pipe { law } | ArcKind::Resist { law } => opened_form(Form::Drags(*law), state),
-        ArcKind::Short => opened_form(Form::Equals, state),
+        ArcKind::Pipe { law } | ArcKind::Resist { law } => {
+            opened_form(LawForm::Drags(level(law)), state)
+        }
+        ArcKind::Short => opened_form(LawForm::Equals, state),
         ArcKind::Loss { low, high } => opened_form(
-            Form::Loses {
+            LawForm::Loses {
                 low: *low,
                 high: *high,
             },
@@ -86,7 +62,7 @@ pub fn form_of(kind: &ArcKind, state: ArcState) -> Form
             red_min,
             red_max,
         } => active_form(
-            Form::Reduces {
+            LawForm::Reduces {
                 in_min: *in_min,
                 out_max: *out_max,
                 red_min: *red_min,
@@ -101,7 +77,7 @@ pub fn form_of(kind: &ArcKind, state: ArcState) -> Form
             ratio_den,
             rise_max,
         } => active_form(
-            Form::Raises {
+            LawForm::Raises {
                 in_min: *in_min,
                 out_max: *out_max,
                 ratio_num: *ratio_num,

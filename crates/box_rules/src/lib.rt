@@ -5,11 +5,10 @@
 mod arc_rules;
 mod balance;
 mod forms;
-mod laws;
+mod problem_arcs;
 mod rules;
 
-pub use arc_rules::{ArcSide, ArcSides};
-pub use balance::{left_over, net_flow, node_closing, supply_of};
-pub use forms::{Form, form_of};
-pub use laws::{fixed_form, sides};
+pub use balance::{balance_bound, net_flow, node_closing, supply_of};
+pub use forms::form_of;
+pub use problem_arcs::{fixed_form, sides};
 pub use rules::{Aim, form_closing, form_step, keeps_sign};

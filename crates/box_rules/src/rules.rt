@@ -1,24 +1,24 @@
 // Steps and closings by the law of an arc.
 ghost use Rattle.std.specs.Prelude.{◌≡◌, ℤ, IsTrue};
-ghost use Rattle.gas_model.specs.Limits.{is_difference, is_ratio_part};
-ghost use Rattle.gas_model.specs.Laws.{drags, equals, shuts, loses, reduces, raises};
+ghost use Rattle.base_types.specs.Numbers.{is_difference, is_ratio_part};
+ghost use Rattle.gas_model.specs.declared.law_forms.LawForm.TheVariants.{Drags, Equals, Shuts, Loses, Reduces, Raises};
 ghost use Rattle.tree_rules.specs.ArcRules.{arc_step, arc_closing, keeps_sign};
-ghost use Rattle.box_rules.specs.ArcSides.{ends_of_sides, var_of_side, law_of_form, IsFormWithin, AreSafeSides, IsSafeAt};
+ghost use Rattle.box_rules.specs.ArcLimits.{IsFormWithin, AreSafeSides, IsSafeAt};
 ghost use Rattle.gas_model.specs.BoxLimits.{IsScale};
 
 use crate::arc_rules::{
-    ArcSide, ArcSides, along_step, drop_closing, drop_step, equal_step, fall_closing, fall_step,
-    inner_step, order_step, pipe_closing, pipe_step, ratio_closing, ratio_step, reach_closing,
-    reach_step, rise_closing, rise_step, sign_step, way_step, zero_step,
+    along_step, drop_closing, drop_step, equal_step, fall_closing, fall_step, inner_step,
+    order_step, pipe_closing, pipe_step, ratio_closing, ratio_step, reach_closing, reach_step,
+    rise_closing, rise_step, sign_step, way_step, zero_step,
 };
-use crate::forms::Form;
-use gas_model::Drag;
+use gas_model::{LawForm, PipeLaw};
 use tree_cert::Rule;
+use tree_rules::{ArcEnds, ArcVar};
 
 /// An end of a variable of an arc, and the value that it is to have.
 #[derive(Clone, Copy, Debug, PartialEq, Eq)]
 pub struct Aim {
-    pub side: ArcSide,
+    pub side: ArcVar,
     pub low: bool,
     pub value: i128,
 }
@@ -36,12 +36,12 @@ pub fn keeps_sign(rule: Rule, value: i128) -> bool
     }
 }
 
-fn drags_step(law: &Drag, rule: Rule, scale: i128, e: ArcSides, aim: Aim) -> bool
-    requires law { IsFormWithin (drags law.now) }
+fn drags_step(law: &PipeLaw, rule: Rule, scale: i128, e: ArcEnds, aim: Aim) -> bool
+    requires law { IsFormWithin (Drags law.now) }
     requires scale { IsScale scale }
     requires ends { AreSafeSides e }
     requires value { IsSafeAt aim.side aim.value }
-    ensures { result ≡ arc_step rule (drags law.now) scale (ends_of_sides e) (var_of_side aim.side) aim.low aim.value }
+    ensures { result ≡ arc_step rule (Drags law.now) scale e aim.side aim.low aim.value }
 {
     match rule {
         Rule::Pipe => pipe_step(law, scale, e, aim.side, aim.low, aim.value),
@@ -49,8 +49,8 @@ fn drags_step(law: &Drag, rule: Rule, scale: i128, e: ArcSides, aim: Aim) -> boo
     }
 }
 
-fn equals_step(rule: Rule, scale: i128, e: ArcSides, aim: Aim) -> bool
-    ensures { result ≡ arc_step rule equals scale (ends_of_sides e) (var_of_side aim.side) aim.low aim.value }
+fn equals_step(rule: Rule, scale: i128, e: ArcEnds, aim: Aim) -> bool
+    ensures { result ≡ arc_step rule Equals scale e aim.side aim.low aim.value }
 {
     match rule {
         Rule::Equal => equal_step(e, aim.side, aim.low, aim.value),
@@ -58,8 +58,8 @@ fn equals_step(rule: Rule, scale: i128, e: ArcSides, aim: Aim) -> bool
     }
 }
 
-fn shuts_step(rule: Rule, scale: i128, e: ArcSides, aim: Aim) -> bool
-    ensures { result ≡ arc_step rule shuts scale (ends_of_sides e) (var_of_side aim.side) aim.low aim.value }
+fn shuts_step(rule: Rule, scale: i128, e: ArcEnds, aim: Aim) -> bool
+    ensures { result ≡ arc_step rule Shuts scale e aim.side aim.low aim.value }
 {
     match rule {
         Rule::Zero => zero_step(aim.side, aim.low, aim.value),
@@ -67,12 +67,12 @@ fn shuts_step(rule: Rule, scale: i128, e: ArcSides, aim: Aim) -> bool
     }
 }
 
-fn loses_step(low: i64, high: i64, rule: Rule, scale: i128, e: ArcSides, aim: Aim) -> bool
-    requires within { IsFormWithin (loses low high) }
+fn loses_step(low: i64, high: i64, rule: Rule, scale: i128, e: ArcEnds, aim: Aim) -> bool
+    requires within { IsFormWithin (Loses low high) }
     requires scale { IsScale scale }
     requires ends { AreSafeSides e }
     requires value { IsSafeAt aim.side aim.value }
-    ensures { result ≡ arc_step rule (loses low high) scale (ends_of_sides e) (var_of_side aim.side) aim.low aim.value }
+    ensures { result ≡ arc_step rule (Loses low high) scale e aim.side aim.low aim.value }
 {
     match rule {
         Rule::Sign => sign_step(low, scale, e, aim.side, aim.low, aim.value),
@@ -90,14 +90,14 @@ fn reduces_step(
     red_max: i64,
     rule: Rule,
     scale: i128,
-    e: ArcSides,
+    e: ArcEnds,
     aim: Aim,
 ) -> bool
-    requires within { IsFormWithin (reduces in_min out_max red_min red_max) }
+    requires within { IsFormWithin (Reduces in_min out_max red_min red_max) }
     requires scale { IsScale scale }
     requires ends { AreSafeSides e }
     requires value { IsSafeAt aim.side aim.value }
-    ensures { result ≡ arc_step rule (reduces in_min out_max red_min red_max) scale (ends_of_sides e) (var_of_side aim.side) aim.low aim.value }
+    ensures { result ≡ arc_step rule (Reduces in_min out_max red_min red_max) scale e aim.side aim.low aim.value }
 {
     match rule {
         Rule::Way => way_step(aim.side, aim.low, aim.value),
@@ -115,14 +115,14 @@ fn raises_step(
     rise_max: i64,
     rule: Rule,
     scale: i128,
-    e: ArcSides,
+    e: ArcEnds,
     aim: Aim,
 ) -> bool
-    requires within { IsFormWithin (raises in_min out_max num den rise_max) }
+    requires within { IsFormWithin (Raises in_min out_max num den rise_max) }
     requires scale { IsScale scale }
     requires ends { AreSafeSides e }
     requires value { IsSafeAt aim.side aim.value }
-    ensures { result ≡ arc_step rule (raises in_min out_max num den rise_max) scale (ends_of_sides e) (var_of_side aim.side) aim.low aim.value }
+    ensures { result ≡ arc_step rule (Raises in_min out_max num den rise_max) scale e aim.side aim.low aim.value }
 {
     match rule {
         Rule::Way => way_step(aim.side, aim.low, aim.value),
@@ -135,25 +135,25 @@ fn raises_step(
 }
 
 /// Whether a rule of the law of an arc gives an end of a variable a value.
-pub fn form_step(form: &Form, rule: Rule, scale: i128, e: ArcSides, aim: Aim) -> bool
-    requires within { IsFormWithin (law_of_form form.now) }
+pub fn form_step(form: &LawForm, rule: Rule, scale: i128, e: ArcEnds, aim: Aim) -> bool
+    requires within { IsFormWithin form.now }
     requires scale { IsScale scale }
     requires ends { AreSafeSides e }
     requires value { IsSafeAt aim.side aim.value }
-    ensures { result ≡ arc_step rule (law_of_form form.now) scale (ends_of_sides e) (var_of_side aim.side) aim.low aim.value }
+    ensures { result ≡ arc_step rule form.now scale e aim.side aim.low aim.value }
 {
     match form {
-        Form::Drags(law) => drags_step(law, rule, scale, e, aim),
-        Form::Equals => equals_step(rule, scale, e, aim),
-        Form::Shuts => shuts_step(rule, scale, e, aim),
-        Form::Loses { low, high } => loses_step(*low, *high, rule, scale, e, aim),
-        Form::Reduces {
+        LawForm::Drags(law) => drags_step(law, rule, scale, e, aim),
+        LawForm::Equals => equals_step(rule, scale, e, aim),
+        LawForm::Shuts => shuts_step(rule, scale, e, aim),
+        LawForm::Loses { low, high } => loses_step(*low, *high, rule, scale, e, aim),
+        LawForm::Reduces {
             in_min,
             out_max,
             red_min,
             red_max,
         } => reduces_step(*in_min, *out_max, *red_min, *red_max, rule, scale, e, aim),
-        Form::Raises {
+        LawForm::Raises {
             in_min,
             out_max,
             ratio_num,
@@ -162,15 +162,15 @@ pub fn form_step(form: &Form, rule: Rule, scale: i128, e: ArcSides, aim: Aim) ->
         } => raises_step(
             *in_min, *out_max, *ratio_num, *ratio_den, *rise_max, rule, scale, e, aim,
         ),
-        Form::Never => false,
+        LawForm::Never => false,
     }
 }
 
-fn drags_closing(law: &Drag, rule: Rule, scale: i128, e: ArcSides) -> bool
-    requires law { IsFormWithin (drags law.now) }
+fn drags_closing(law: &PipeLaw, rule: Rule, scale: i128, e: ArcEnds) -> bool
+    requires law { IsFormWithin (Drags law.now) }
     requires scale { IsScale scale }
     requires ends { AreSafeSides e }
-    ensures { result ≡ arc_closing rule (drags law.now) scale (ends_of_sides e) }
+    ensures { result ≡ arc_closing rule (Drags law.now) scale e }
 {
     match rule {
         Rule::Pipe => pipe_closing(law, scale, e),
@@ -178,11 +178,11 @@ fn drags_closing(law: &Drag, rule: Rule, scale: i128, e: ArcSides) -> bool
     }
 }
 
-fn loses_closing(low: i64, high: i64, rule: Rule, scale: i128, e: ArcSides) -> bool
-    requires within { IsFormWithin (loses low high) }
+fn loses_closing(low: i64, high: i64, rule: Rule, scale: i128, e: ArcEnds) -> bool
+    requires within { IsFormWithin (Loses low high) }
     requires scale { IsScale scale }
     requires ends { AreSafeSides e }
-    ensures { result ≡ arc_closing rule (loses low high) scale (ends_of_sides e) }
+    ensures { result ≡ arc_closing rule (Loses low high) scale e }
 {
     match rule {
         Rule::Reach => reach_closing(high, scale, e),
@@ -191,12 +191,12 @@ fn loses_closing(low: i64, high: i64, rule: Rule, scale: i128, e: ArcSides) -> b
     }
 }
 
-fn reduces_closing(red_min: i64, red_max: i64, rule: Rule, scale: i128, e: ArcSides) -> bool
+fn reduces_closing(red_min: i64, red_max: i64, rule: Rule, scale: i128, e: ArcEnds) -> bool
     requires red_min { IsTrue (is_difference red_min) }
     requires red_max { IsTrue (is_difference red_max) }
     requires scale { IsScale scale }
     requires ends { AreSafeSides e }
-    ensures { (in_min out_max : ℤ) → result ≡ arc_closing rule (reduces in_min out_max red_min red_max) scale (ends_of_sides e) }
+    ensures { (in_min out_max : ℤ) → result ≡ arc_closing rule (Reduces in_min out_max red_min red_max) scale e }
 {
     match rule {
         Rule::Fall => fall_closing(red_min, red_max, scale, e),
@@ -204,13 +204,13 @@ fn reduces_closing(red_min: i64, red_max: i64, rule: Rule, scale: i128, e: ArcSi
     }
 }
 
-fn raises_closing(num: i64, den: i64, rise_max: i64, rule: Rule, scale: i128, e: ArcSides) -> bool
+fn raises_closing(num: i64, den: i64, rise_max: i64, rule: Rule, scale: i128, e: ArcEnds) -> bool
     requires num { IsTrue (is_ratio_part num) }
     requires den { IsTrue (is_ratio_part den) }
     requires rise_max { IsTrue (is_difference rise_max) }
     requires scale { IsScale scale }
     requires ends { AreSafeSides e }
-    ensures { (in_min out_max : ℤ) → result ≡ arc_closing rule (raises in_min out_max num den rise_max) scale (ends_of_sides e) }
+    ensures { (in_min out_max : ℤ) → result ≡ arc_closing rule (Raises in_min out_max num den rise_max) scale e }
 {
     match rule {
         Rule::Rise => rise_closing(rise_max, scale, e),
@@ -220,28 +220,28 @@ fn raises_closing(num: i64, den: i64, rise_max: i64, rule: Rule, scale: i128, e:
 }
 
 /// Whether the law of an arc holds nowhere between the ends, by a rule that closes boxes.
-pub fn form_closing(form: &Form, rule: Rule, scale: i128, e: ArcSides) -> bool
-    requires within { IsFormWithin (law_of_form form.now) }
+pub fn form_closing(form: &LawForm, rule: Rule, scale: i128, e: ArcEnds) -> bool
+    requires within { IsFormWithin form.now }
     requires scale { IsScale scale }
     requires ends { AreSafeSides e }
-    ensures { result ≡ arc_closing rule (law_of_form form.now) scale (ends_of_sides e) }
+    ensures { result ≡ arc_closing rule form.now scale e }
 {
     match form {
-        Form::Drags(law) => drags_closing(law, rule, scale, e),
-        Form::Loses { low, high } => loses_closing(*low, *high, rule, scale, e),
-        Form::Reduces {
+        LawForm::Drags(law) => drags_closing(law, rule, scale, e),
+        LawForm::Loses { low, high } => loses_closing(*low, *high, rule, scale, e),
+        LawForm::Reduces {
             red_min,
             red_max,
             ..
         } => reduces_closing(*red_min, *red_max, rule, scale, e),
-        Form::Raises {
+        LawForm::Raises {
             ratio_num,
             ratio_den,
             rise_max,
             ..
         } => raises_closing(*ratio_num, *ratio_den, *rise_max, rule, scale, e),
-        Form::Equals => false,
-        Form::Shuts => false,
-        Form::Never => false,
+        LawForm::Equals => false,
+        LawForm::Shuts => false,
+        LawForm::Never => false,
     }
 }

@@ -4,7 +4,7 @@ use Rattle.std.specs.Int.{w128}
 use borrow.Author.Differences.{fits_in}
 use Rattle.integer_laws.proofs.Ring.{linear, one_mul}
 use Rattle.integer_laws.proofs.SizeLemmas.{within_fits, product_within}
-use Rattle.gas_model.specs.Limits.{is_ratio_part, is_square}
+use Rattle.base_types.specs.Numbers.{is_ratio_part, is_square}
 use Rattle.gas_model.specs.Curves.{square, keeps_inner}
 use Rattle.gas_model.proofs.LimitFacts.{ratio_from, ratio_most, ratio_size, square_size}
 

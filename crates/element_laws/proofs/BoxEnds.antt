@@ -3,7 +3,7 @@ use Rattle.std.proofs.Common.{inl, inr, ◌^◌, ◌*◌, ◌+◌, arith, ℤ, p
 use Rattle.integer_laws.proofs.Ring.{linear}
 use Rattle.integer_laws.proofs.SizeLemmas.{within_parts, one_part}
 use Rattle.gas_model.specs.declared.rows.Ends.{Ends}
-use Rattle.gas_model.specs.declared.rows.Var.TheVariants.{Flow, Square}
+use Rattle.base_types.specs.declared.variables.Var.TheVariants.{Flow, Square}
 use Rattle.gas_model.specs.BoxLimits.{IsScale, AreFlowEnds, AreSquareEnds}
 use Rattle.element_laws.specs.Sizes.{is_wide_square, AreSafeFlows, AreSafeSquares, BoxEndsAreSafe}
 

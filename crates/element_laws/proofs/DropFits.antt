@@ -6,7 +6,8 @@ use Rattle.integer_laws.specs.Sizes.{IsWithin}
 use Rattle.integer_laws.proofs.Ring.{linear}
 use Rattle.integer_laws.proofs.SizeLemmas.{within_fits, product_within, difference_within, between_within}
 use Rattle.gas_model.specs.declared.rows.Drag.{Drag}
-use Rattle.gas_model.specs.Limits.{is_drag_part, is_drag_within}
+use Rattle.base_types.specs.Numbers.{is_drag_part}
+use Rattle.gas_model.specs.Limits.{is_drag_within}
 use Rattle.element_laws.specs.Sizes.{most_flow}
 
 -- a law's numbers within their limits

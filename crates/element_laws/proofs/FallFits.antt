@@ -3,7 +3,7 @@ use Rattle.std.proofs.Common.{◌+◌, ◌^◌, lit≤, arith, ℤ, pos, ◌+ℤ
 use Rattle.std.specs.Int.{w128}
 use Rattle.integer_laws.proofs.Ring.{linear}
 use Rattle.integer_laws.proofs.SizeLemmas.{within_fits, sum_within, difference_within}
-use Rattle.gas_model.specs.Limits.{is_difference, is_square}
+use Rattle.base_types.specs.Numbers.{is_difference, is_square}
 use Rattle.gas_model.specs.Curves.{at_least_zero}
 use Rattle.element_laws.specs.Sizes.{is_wide_square, is_wide_difference}
 use Rattle.gas_model.proofs.LimitFacts.{square_from, square_most, square_size}

@@ -1,4 +1,3 @@
-pub mod Curves
 pub mod Weymouth
 pub mod DropFits
 pub mod Widths

@@ -3,7 +3,7 @@ use Rattle.std.proofs.Common.{◌≡◌, ℕ, ◌<◌, sym, ap, ◌∙◌, ℤ, 
 use Rattle.std.specs.Prelude.{slice_get}
 use Rattle.std.specs.Option.{option_map_or}
 use Rattle.std.proofs.lemmas.Option.{slice_get_within, get_or_from_slice_get}
-use Rattle.gas_model.specs.declared.rows.ArcState.TheVariants.{Opened}
+use Rattle.base_types.specs.declared.states.ArcState.TheVariants.{Opened}
 use Rattle.gas_model.specs.declared.rows.Setting.{Setting}
 use Rattle.gas_model.specs.Rows.{Network}
 use Rattle.gas_model.specs.Choices.{may_be}
@@ -12,7 +12,7 @@ use Rattle.gas_model.specs.Near.{number_at, nears_arc, SettingFits, IsNear}
 use Rattle.element_laws.specs.declared.broken.Broken.{Broken}
 use Rattle.element_laws.specs.declared.broken.Broken.TheVariants.{Choice, FlowBound, PressureBound, Balance, Law}
 use Rattle.element_laws.specs.Failing.{passes_at}
-use Rattle.element_laws.specs.Kept.{keeps_choice, keeps_flow_bound, keeps_pressure_bound, keeps_balance, keeps_law}
+use Rattle.element_laws.specs.KeptLaws.{keeps_choice, keeps_flow_bound, keeps_pressure_bound, keeps_balance, keeps_law}
 use Rattle.element_laws.specs.FirstBroken.{is_kept, laws_for, IsFirstRefused, IsFirstBroken}
 use Rattle.element_laws.proofs.Order.{first_left, first_right, all_kept, first_of}
 

@@ -5,8 +5,9 @@ use Rattle.std.specs.Int.{w128}
 use borrow.Author.Differences.{fits_in}
 use Rattle.integer_laws.proofs.Ring.{linear, one_mul, mul_assoc, mul_comm}
 use Rattle.integer_laws.proofs.SizeLemmas.{within_fits, product_within, difference_within}
-use Rattle.gas_model.specs.declared.rows.Drag.{Drag}
-use Rattle.gas_model.specs.Limits.{is_drag_within, is_ratio_part}
+use Rattle.gas_model.specs.declared.law_forms.PipeLaw.{PipeLaw}
+use Rattle.base_types.specs.Numbers.{is_ratio_part}
+use Rattle.gas_model.specs.Laws.{is_pipe_within}
 use Rattle.gas_model.specs.Curves.{square, excess, at_most, at_least}
 use Rattle.gas_model.proofs.LimitFacts.{ratio_from, ratio_most, ratio_size, scale_size}
 use Rattle.element_laws.specs.Sizes.{is_wide_square}
@@ -29,20 +30,20 @@ pub record GapFits (den K y x : ℤ) : Type 0 where
   pub apart : FitsSigned w128 (y -ℤ x)
   pub product : FitsSigned w128 (den *ℤ K *ℤ (y -ℤ x))
 
-pub gap_fits : (law : Drag) (K high low : ℤ) → IsTrue (is_drag_within law) → IsScale K → IsTrue (is_wide_square high) → IsTrue (is_wide_square low) → GapFits law.den K high low
+pub gap_fits : (law : PipeLaw) (K high low : ℤ) → IsTrue (is_pipe_within law) → IsScale K → IsTrue (is_wide_square high) → IsTrue (is_wide_square low) → GapFits law.drag.den K high low
 gap_fits law K high low t k a b =
-    let d = (drag_parts law t).den in
-    let size = part_size law.den d in
-    let scaled_size = product_within law.den K (2 ^ 38) 16 size (scale_size K k) in
+    let d = (drag_parts law.drag t).den in
+    let size = part_size law.drag.den d in
+    let scaled_size = product_within law.drag.den K (2 ^ 38) 16 size (scale_size K k) in
     let apart_size = difference_within high low (32 * 10 ^ 16 + 16) (32 * 10 ^ 16 + 16) (wide_square_size high a) (wide_square_size low b) in
     record {
-      small = fits_in w64 law.den (omega (arith, linear, part_from law.den d, part_most law.den d));
-      wide = within_fits (2 ^ 38) law.den size (lit≤ tt);
+      small = fits_in w64 law.drag.den (omega (arith, linear, part_from law.drag.den d, part_most law.drag.den d));
+      wide = within_fits (2 ^ 38) law.drag.den size (lit≤ tt);
       high = wide_fits high a;
       low = wide_fits low b;
-      scaled = within_fits (2 ^ 38 * 16) (law.den *ℤ K) scaled_size (lit≤ tt);
+      scaled = within_fits (2 ^ 38 * 16) (law.drag.den *ℤ K) scaled_size (lit≤ tt);
       apart = within_fits (32 * 10 ^ 16 + 16 + (32 * 10 ^ 16 + 16)) (high -ℤ low) apart_size (lit≤ tt);
-      product = within_fits (2 ^ 38 * 16 * (32 * 10 ^ 16 + 16 + (32 * 10 ^ 16 + 16))) (law.den *ℤ K *ℤ (high -ℤ low)) (product_within (law.den *ℤ K) (high -ℤ low) (2 ^ 38 * 16) (32 * 10 ^ 16 + 16 + (32 * 10 ^ 16 + 16)) scaled_size apart_size) (lit≤ tt);
+      product = within_fits (2 ^ 38 * 16 * (32 * 10 ^ 16 + 16 + (32 * 10 ^ 16 + 16))) (law.drag.den *ℤ K *ℤ (high -ℤ low)) (product_within (law.drag.den *ℤ K) (high -ℤ low) (2 ^ 38 * 16) (32 * 10 ^ 16 + 16 + (32 * 10 ^ 16 + 16)) scaled_size apart_size) (lit≤ tt);
     }
 
 pub record RatioFits (n z : ℤ) : Type 0 where

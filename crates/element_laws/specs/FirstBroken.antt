@@ -5,7 +5,7 @@ use Rattle.gas_model.specs.declared.rows.Setting.{Setting}
 use Rattle.gas_model.specs.Rows.{Network}
 use Rattle.element_laws.specs.declared.broken.Broken.{Broken}
 use Rattle.element_laws.specs.declared.broken.Broken.TheVariants.{Choice, FlowBound, PressureBound, Balance, Law}
-use Rattle.element_laws.specs.Kept.{keeps_choice, keeps_flow_bound, keeps_pressure_bound, keeps_balance, keeps_law}
+use Rattle.element_laws.specs.KeptLaws.{keeps_choice, keeps_flow_bound, keeps_pressure_bound, keeps_balance, keeps_law}
 
 -- whether the setting keeps the law, within the tolerance where it is an arc's
 abbrev pub is_kept : Network → ℤ → Setting → Broken → Bool

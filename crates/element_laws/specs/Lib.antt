@@ -1,5 +1,5 @@
 pub mod Weymouth
 pub mod Sizes
 pub mod Failing
-pub mod Kept
+pub mod KeptLaws
 pub mod FirstBroken

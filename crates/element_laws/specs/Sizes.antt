@@ -1,9 +1,9 @@
 -- The numbers that the formulas of the laws take, in units of up to a sixteenth.
 use Rattle.std.specs.Prelude.{◌+◌, ◌*◌, ◌^◌, ℕ, ℤ, pos, negsuc, Bool, IsTrue}
 use Rattle.gas_model.specs.declared.rows.Ends.{Ends}
-use Rattle.gas_model.specs.declared.rows.Var.{Var}
-use Rattle.gas_model.specs.declared.rows.Var.TheVariants.{Flow, Square}
-use Rattle.gas_model.specs.Limits.{between}
+use Rattle.base_types.specs.declared.variables.Var.{Var}
+use Rattle.base_types.specs.declared.variables.Var.TheVariants.{Flow, Square}
+use Rattle.base_types.specs.Numbers.{between}
 use Rattle.gas_model.specs.BoxLimits.{IsScale, AreLimited}
 use Rattle.integer_laws.specs.Sizes.{IsWithin}
 

@@ -1,11 +1,11 @@
 // The flow and the pressures at the ends of an active arc.
 ghost use Rattle.std.specs.Prelude.{◌≡◌, pos, ◌&&◌, int_le, IsTrue};
-ghost use Rattle.gas_model.specs.Limits.{is_difference, is_ratio_part, is_square};
+ghost use Rattle.base_types.specs.Numbers.{is_difference, is_ratio_part, is_square};
 ghost use Rattle.gas_model.specs.Curves.{at_most, falls_between, keeps_inner, keeps_ratio, rises_within};
 
 use crate::falls::falls_between;
 use crate::numbers::square;
-use crate::roots::at_most;
+use crate::root_tests::at_most;
 
 // Whether the pressure before an active arc is at least `in_min` Pa, and that after it at most `out_max` Pa.
 pub fn keeps_inner(in_min: i64, out_max: i64, u: i128, v: i128) -> bool

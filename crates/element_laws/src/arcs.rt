@@ -1,17 +1,18 @@
 // The laws of arcs within a tolerance.
 ghost use Rattle.std.specs.Prelude.{◌≡◌, ◌<◌, IsTrue, length};
-ghost use Rattle.gas_model.specs.declared.rows.ArcState.TheVariants.{Opened, Shut, Active, Bypass};
-ghost use Rattle.gas_model.specs.Limits.{is_kind_within, is_flow, is_square};
+ghost use Rattle.base_types.specs.declared.states.ArcState.TheVariants.{Opened, Shut, Active, Bypass};
+ghost use Rattle.gas_model.specs.Limits.{is_kind_within};
+ghost use Rattle.base_types.specs.Numbers.{is_flow, is_square};
 ghost use Rattle.gas_model.specs.Laws.{form_of, nears_form};
 ghost use Rattle.gas_model.specs.Near.{SettingFits};
 ghost use Rattle.element_laws.specs.Failing.{IsFirstFailing};
-ghost use Rattle.element_laws.specs.Kept.{keeps_law};
+ghost use Rattle.element_laws.specs.KeptLaws.{keeps_law};
 
 use crate::active::{flows_down, flows_up, keeps_inner};
 use crate::drags::nears_resistance;
 use crate::falls::nears_loss;
 use crate::numbers::{flow_at, square_at};
-use gas_model::{ArcKind, ArcState, Problem, Setting};
+use gas_model::{ArcKind, ArcState, Problem, Setting, level};
 
 // Whether the law of an open arc of this kind holds of its flow and of the squares at its ends.
 fn nears_opened(kind: &ArcKind, tol: i128, q: i128, u: i128, v: i128) -> bool
@@ -23,7 +24,9 @@ fn nears_opened(kind: &ArcKind, tol: i128, q: i128, u: i128, v: i128) -> bool
     ensures { result ≡ nears_form (form_of kind.now Opened) tol q u v }
 {
     match kind {
-        ArcKind::Pipe { law } | ArcKind::Resist { law } => nears_resistance(law, tol, q, u, v),
+        ArcKind::Pipe { law } | ArcKind::Resist { law } => {
+            nears_resistance(&level(law), tol, q, u, v)
+        }
         ArcKind::Short | ArcKind::Valve => u == v,
         ArcKind::Loss { low, high } => nears_loss(*low, *high, tol, q, u, v),
         ArcKind::Control { .. } | ArcKind::Station { .. } => false,

@@ -1,10 +1,10 @@
 // The balances of nodes.
 ghost use Rattle.std.specs.Prelude.{◌≡◌, ◌<◌, ◌==◌, IsTrue, length, neg_ℤ, if◌then◌else◌};
-ghost use Rattle.gas_model.specs.Limits.{is_flow};
+ghost use Rattle.base_types.specs.Numbers.{is_flow};
 ghost use Rattle.gas_model.specs.Points.{net_flow};
 ghost use Rattle.gas_model.specs.Near.{SettingFits, number_at};
 ghost use Rattle.element_laws.specs.Failing.{IsFirstFailing};
-ghost use Rattle.element_laws.specs.Kept.{keeps_balance};
+ghost use Rattle.element_laws.specs.KeptLaws.{keeps_balance};
 
 use crate::bounds::is_between;
 use crate::numbers::flow_at;

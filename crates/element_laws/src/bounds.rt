@@ -1,9 +1,9 @@
 // The bounds of flows and of squared pressures.
 ghost use Rattle.std.specs.Prelude.{◌≡◌, ◌<◌, length};
-ghost use Rattle.gas_model.specs.Limits.{between};
+ghost use Rattle.base_types.specs.Numbers.{between};
 ghost use Rattle.gas_model.specs.Near.{SettingFits};
 ghost use Rattle.element_laws.specs.Failing.{IsFirstFailing};
-ghost use Rattle.element_laws.specs.Kept.{keeps_flow_bound, keeps_pressure_bound};
+ghost use Rattle.element_laws.specs.KeptLaws.{keeps_flow_bound, keeps_pressure_bound};
 
 use crate::numbers::{flow_at, square, square_at};
 use gas_model::{Problem, Setting};

@@ -1,6 +1,6 @@
 // The first law that a setting breaks.
 ghost use Rattle.std.specs.Prelude.{◌^◌, pos, IsTrue, IfNone, IfSome, OnSome};
-ghost use Rattle.gas_model.specs.Limits.{between};
+ghost use Rattle.base_types.specs.Numbers.{between};
 ghost use Rattle.gas_model.specs.Near.{SettingFits, IsNear};
 ghost use Rattle.element_laws.specs.FirstBroken.{IsFirstBroken};
 

@@ -2,7 +2,7 @@
 ghost use Rattle.std.specs.Prelude.{◌≡◌, ◌<◌, ◌≤◌, length};
 ghost use Rattle.gas_model.specs.Near.{SettingFits};
 ghost use Rattle.element_laws.specs.Failing.{IsFirstFailing};
-ghost use Rattle.element_laws.specs.Kept.{keeps_choice};
+ghost use Rattle.element_laws.specs.KeptLaws.{keeps_choice};
 
 use gas_model::{Problem, Setting};
 

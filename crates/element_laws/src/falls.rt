@@ -1,9 +1,9 @@
 // Pressures that fall by a constant loss, or by what an active control valve takes.
 ghost use Rattle.std.specs.Prelude.{◌≡◌, pos, IsTrue};
-ghost use Rattle.gas_model.specs.Limits.{is_difference, is_square};
+ghost use Rattle.base_types.specs.Numbers.{is_difference, is_square};
 ghost use Rattle.gas_model.specs.Curves.{falls_between, at_least_zero, nears_fall, is_close, nears_loss};
 
-use crate::roots::{at_least, at_most};
+use crate::root_tests::{at_least, at_most};
 
 // Whether the pressure falls from the square `x` to the square `y` by `low` to `high` Pa.
 pub fn falls_between(low: i64, high: i64, x: i128, y: i128) -> bool

@@ -11,15 +11,12 @@ mod drags;
 mod drops;
 mod falls;
 mod numbers;
-mod roots;
+mod root_tests;
 mod scaled;
-#[cfg(test)]
-mod tests;
 
 pub use broken::{Broken, first_broken};
 pub use drops::{drop_high, drop_low, interval_is_weymouth};
-pub use roots::{at_least, at_most};
+pub use root_tests::{at_least, at_most};
 pub use scaled::{
     box_ends_are_safe, drop_gap, ratio_square, root_times, scaled_at_least, scaled_at_most,
-    scaled_square,
 };

@@ -1,7 +1,7 @@
 // The numbers of a setting, and the squares of pressures.
 ghost use Rattle.std.specs.Prelude.{◌≡◌, ◌<◌, IsTrue, length, true};
 ghost use Rattle.std.specs.List.{list_all};
-ghost use Rattle.gas_model.specs.Limits.{is_flow, is_square};
+ghost use Rattle.base_types.specs.Numbers.{is_flow, is_square};
 ghost use Rattle.gas_model.specs.Curves.{square};
 ghost use Rattle.gas_model.specs.Near.{number_at};
 

@@ -2,32 +2,23 @@
 ghost use Rattle.std.specs.Prelude.{◌≡◌, ◌-ℤ◌, ◌*ℤ◌, IsTrue};
 ghost use Rattle.gas_model.specs.BoxLimits.{IsScale};
 ghost use Rattle.gas_model.specs.Curves.{square, at_most, at_least};
-ghost use Rattle.gas_model.specs.Limits.{is_difference, is_drag_within, is_ratio_part};
+ghost use Rattle.base_types.specs.Numbers.{is_difference, is_ratio_part};
+ghost use Rattle.gas_model.specs.Laws.{is_pipe_within};
 ghost use Rattle.element_laws.specs.Sizes.{is_wide_square, is_wide_difference, BoxEndsAreSafe};
 
-use crate::roots;
-use gas_model::Drag;
-
-/// The square of a pressure in Pa, in parts of a Pa^2. The pressure lies from 0 to 4 * 10^8, and the scale is 1 or 16.
-pub fn scaled_square(scale: i128, pressure: i64) -> i128
-    requires scale { IsScale scale }
-    requires pressure { IsTrue (is_difference pressure) }
-    ensures { result ≡ scale *ℤ square pressure }
-{
-    let pressure = pressure as i128;
-    scale * (pressure * pressure)
-}
+use crate::root_tests;
+use gas_model::PipeLaw;
 
 /// The square `high` less the square `low`, times the denominator of a resistance and the scale: what the least and the
 /// greatest drop of the law are compared with. The squares lie from -16 to 32 * 10^16 + 16 parts of a Pa^2.
-pub fn drop_gap(law: &Drag, scale: i128, high: i128, low: i128) -> i128
-    requires law { IsTrue (is_drag_within law.now) }
+pub fn drop_gap(law: &PipeLaw, scale: i128, high: i128, low: i128) -> i128
+    requires law { IsTrue (is_pipe_within law.now) }
     requires scale { IsScale scale }
     requires high { IsTrue (is_wide_square high) }
     requires low { IsTrue (is_wide_square low) }
-    ensures { result ≡ law.now.den *ℤ scale *ℤ (high -ℤ low) }
+    ensures { result ≡ law.now.drag.den *ℤ scale *ℤ (high -ℤ low) }
 {
-    law.den as i128 * scale * (high - low)
+    law.drag.den as i128 * scale * (high - low)
 }
 
 /// A squared pressure times the square of a number of a ratio. The square lies from -16 to 32 * 10^16 + 16.
@@ -60,7 +51,7 @@ pub fn scaled_at_most(scale: i128, y: i128, x: i128, d: i64) -> bool
     requires d { IsTrue (is_difference d) }
     ensures { result ≡ at_most scale y x d }
 {
-    roots::at_most(y, x, root_times(scale, d))
+    root_tests::at_most(y, x, root_times(scale, d))
 }
 
 /// Whether the root of the square `y` is at least the root of the square `x` plus `d` Pa, where squares count parts of
@@ -72,7 +63,7 @@ pub fn scaled_at_least(scale: i128, y: i128, x: i128, d: i64) -> bool
     requires d { IsTrue (is_difference d) }
     ensures { result ≡ at_least scale y x d }
 {
-    roots::at_least(y, x, root_times(scale, d))
+    root_tests::at_least(y, x, root_times(scale, d))
 }
 
 /// The number calls take all ends that a box may have, in ones and in sixteenths.

@@ -5,17 +5,21 @@ use borrow.Author.Tests.{eqb-true, lt-ltb}
 use Rattle.std.proofs.lemmas.Option.{slice_get_within}
 use Rattle.std.proofs.lemmas.Bool.{and_parts}
 use Rattle.gas_model.specs.declared.rows.ArcRow.{ArcRow}
-use Rattle.gas_model.specs.declared.rows.Drag.{Drag}
+use Rattle.gas_model.specs.declared.law_forms.PipeLaw.{PipeLaw}
 use Rattle.gas_model.specs.declared.rows.Ends.{Ends}
-use Rattle.gas_model.specs.declared.rows.Var.{Var}
-use Rattle.gas_model.specs.declared.rows.Var.TheVariants.{Flow, Square}
+use Rattle.base_types.specs.declared.variables.Var.{Var}
+use Rattle.base_types.specs.declared.variables.Var.TheVariants.{Flow, Square}
 use Rattle.gas_model.specs.Rows.{Network}
 use Rattle.gas_model.specs.Curves.{at_least}
-use Rattle.gas_model.specs.Laws.{LawForm, drags, equals, shuts, loses, reduces, raises, never}
+use Rattle.gas_model.specs.declared.law_forms.LawForm.{LawForm}
+use Rattle.gas_model.specs.declared.law_forms.LawForm.TheVariants.{Drags, Equals, Shuts, Loses, Reduces, Raises, Never}
 use Rattle.tree_cert.specs.declared.line.Rule.{Rule}
 use Rattle.tree_cert.specs.declared.line.Rule.TheVariants.{Pipe, Equal, Zero, Way, Inner, Fall, Order, Rise, Ratio, Sign, Reach, Along, Drop}
 use Rattle.tree_cert.specs.declared.line.Step.{Step}
-use Rattle.tree_rules.specs.ArcRules.{ArcEnds, ArcVar, OfFlow, arc_step, keeps_sign}
+use Rattle.tree_rules.specs.declared.arc_vars.ArcEnds.{ArcEnds}
+use Rattle.tree_rules.specs.declared.arc_vars.ArcVar.{ArcVar}
+use Rattle.tree_rules.specs.declared.arc_vars.ArcVar.TheVariants.{OfFlow}
+use Rattle.tree_rules.specs.ArcRules.{arc_step, keeps_sign}
 use Rattle.tree_rules.specs.Rules.{PartBox, arc_ends, arc_var, fixed_form}
 use Rattle.tight_steps.specs.declared.law.Law.TheVariants.{AtArc}
 use Rattle.tight_steps.specs.declared.best.NewEnd.{NewEnd}
@@ -23,65 +27,62 @@ use Rattle.tight_steps.specs.Best.{CanShrink, HasNoBest, IsBound}
 use Rattle.tight_steps.specs.NewEnds.{HasNoEnd, IsFirstEnd}
 use Rattle.tight_steps.specs.Moves.{is_balance, is_of_law, is_flow, flow_number, rule_number, allows, HasNoMove, IsFirstMove, IsMove}
 use Rattle.tight_steps.proofs.ArcMoves.{HasForm, ArcMove, arc_move, unfixed_move, tight_step, no_step_by}
-use Rattle.box_rules.specs.declared.forms.Form.{Form}
-use Rattle.box_rules.specs.declared.forms.Form.TheVariants as forms
-use Rattle.box_rules.specs.ArcSides.{law_of_form}
 use Rattle.flow_propagate.specs.FlowRules.{flow_rule}
 use Rattle.flow_propagate.specs.Drops.{IsLeastFlow, IsGreatestFlow}
 
 -- ---- the one rule
 only_rule : (rule : Rule) (form : LawForm) (K : ℤ) (e : ArcEnds) (low : Bool) (C : ℤ) → IsTrue (arc_step rule form K e OfFlow low C) → flow_rule form ≡ Some rule
-only_rule Pipe (drags law) K e low C t = refl
-only_rule Zero shuts K e low C t = refl
-only_rule Sign (loses l h) K e low C t = refl
-only_rule Way (reduces a b l h) K e low C t = refl
-only_rule Way (raises a b n d r) K e low C t = refl
-only_rule Equal equals K e low C t = absurd cc
-only_rule Inner (reduces a b l h) K e low C t = absurd cc
-only_rule Inner (raises a b n d r) K e low C t = absurd cc
-only_rule Fall (reduces a b l h) K e low C t = absurd cc
-only_rule Order (raises a b n d r) K e low C t = absurd cc
-only_rule Rise (raises a b n d r) K e low C t = absurd cc
-only_rule Ratio (raises a b n d r) K e low C t = absurd cc
-only_rule Reach (loses l h) K e low C t = absurd cc
-only_rule Along (loses l h) K e low C t = absurd cc
-only_rule Drop (loses l h) K e low C t = absurd cc
+only_rule Pipe (Drags law) K e low C t = refl
+only_rule Zero Shuts K e low C t = refl
+only_rule Sign (Loses l h) K e low C t = refl
+only_rule Way (Reduces a b l h) K e low C t = refl
+only_rule Way (Raises a b n d r) K e low C t = refl
+only_rule Equal Equals K e low C t = absurd cc
+only_rule Inner (Reduces a b l h) K e low C t = absurd cc
+only_rule Inner (Raises a b n d r) K e low C t = absurd cc
+only_rule Fall (Reduces a b l h) K e low C t = absurd cc
+only_rule Order (Raises a b n d r) K e low C t = absurd cc
+only_rule Rise (Raises a b n d r) K e low C t = absurd cc
+only_rule Ratio (Raises a b n d r) K e low C t = absurd cc
+only_rule Reach (Loses l h) K e low C t = absurd cc
+only_rule Along (Loses l h) K e low C t = absurd cc
+only_rule Drop (Loses l h) K e low C t = absurd cc
 only_rule rule form K e low C t = absurd cc
 
 -- it is none of the balance
 arc_rule : (form : LawForm) (rule : Rule) → flow_rule form ≡ Some rule → IsTrue (not (is_balance rule))
-arc_rule (drags law) rule e = subst (λ (r : Rule). IsTrue (not (is_balance r))) (let s : Pipe ≡ rule = cc in s) refl
-arc_rule shuts rule e = subst (λ (r : Rule). IsTrue (not (is_balance r))) (let s : Zero ≡ rule = cc in s) refl
-arc_rule (loses l h) rule e = subst (λ (r : Rule). IsTrue (not (is_balance r))) (let s : Sign ≡ rule = cc in s) refl
-arc_rule (reduces a b l h) rule e = subst (λ (r : Rule). IsTrue (not (is_balance r))) (let s : Way ≡ rule = cc in s) refl
-arc_rule (raises a b n d r) rule e = subst (λ (k : Rule). IsTrue (not (is_balance k))) (let s : Way ≡ rule = cc in s) refl
-arc_rule equals rule e = absurd cc
-arc_rule never rule e = absurd cc
+arc_rule (Drags law) rule e = subst (λ (r : Rule). IsTrue (not (is_balance r))) (let s : Pipe ≡ rule = cc in s) refl
+arc_rule Shuts rule e = subst (λ (r : Rule). IsTrue (not (is_balance r))) (let s : Zero ≡ rule = cc in s) refl
+arc_rule (Loses l h) rule e = subst (λ (r : Rule). IsTrue (not (is_balance r))) (let s : Sign ≡ rule = cc in s) refl
+arc_rule (Reduces a b l h) rule e = subst (λ (r : Rule). IsTrue (not (is_balance r))) (let s : Way ≡ rule = cc in s) refl
+arc_rule (Raises a b n d r) rule e = subst (λ (k : Rule). IsTrue (not (is_balance k))) (let s : Way ≡ rule = cc in s) refl
+arc_rule Equals rule e = absurd cc
+arc_rule Never rule e = absurd cc
 
 -- ---- bounds of the rules
-pub greatest_bound : (law : Drag) (K C : ℤ) (e : ArcEnds) (own : Ends) → IsGreatestFlow law (law.den *ℤ K *ℤ (e.u.lo -ℤ e.v.hi)) C → IsBound true own (allows Pipe (drags law) K e OfFlow true) C
+pub greatest_bound : (law : PipeLaw) (K C : ℤ) (e : ArcEnds) (own : Ends) → IsGreatestFlow law.drag (law.drag.den *ℤ K *ℤ (e.u.lo -ℤ e.v.hi)) C → IsBound true own (allows Pipe (Drags law) K e OfFlow true) C
 greatest_bound law K C e own g = record { is = λ z w. (λ t. sym (g.is z) ∙ t, λ t. g.is z ∙ t) }
 
-pub least_bound : (law : Drag) (K C : ℤ) (e : ArcEnds) (own : Ends) → IsLeastFlow law (law.den *ℤ K *ℤ (e.u.hi -ℤ e.v.lo)) C → IsBound false own (allows Pipe (drags law) K e OfFlow false) C
+pub least_bound : (law : PipeLaw) (K C : ℤ) (e : ArcEnds) (own : Ends) → IsLeastFlow law.drag (law.drag.den *ℤ K *ℤ (e.u.hi -ℤ e.v.lo)) C → IsBound false own (allows Pipe (Drags law) K e OfFlow false) C
 least_bound law K C e own g = record { is = λ z w. (λ t. sym (g.is z) ∙ t, λ t. g.is z ∙ t) }
 
 -- a condition of which one part speaks of the value
 first_part : (a b : Bool) → IsTrue b → (IsTrue (a && b) → IsTrue a) × (IsTrue a → IsTrue (a && b))
 first_part a b h = (λ t. (and_parts a b t).0, λ t. ap (λ (x : Bool). x && b) t ∙ h)
 
-zero_of : (K : ℤ) (e : ArcEnds) (low : Bool) → IsBound low e.q (allows Zero shuts K e OfFlow low) (pos 0)
+zero_of : (K : ℤ) (e : ArcEnds) (low : Bool) → IsBound low e.q (allows Zero Shuts K e OfFlow low) (pos 0)
 zero_of K e true = record { is = λ z w. (λ t. t, λ t. t) }
 zero_of K e false = record { is = λ z w. (λ t. t, λ t. t) }
 
-sign_of : (K : ℤ) (e : ArcEnds) (l h : ℤ) (low : Bool) → CanShrink low e.q (allows Sign (loses l h) K e OfFlow low) → IsBound low e.q (allows Sign (loses l h) K e OfFlow low) (pos 0)
+sign_of : (K : ℤ) (e : ArcEnds) (l h : ℤ) (low : Bool) → CanShrink low e.q (allows Sign (Loses l h) K e OfFlow low) → IsBound low e.q (allows Sign (Loses l h) K e OfFlow low) (pos 0)
 sign_of K e l h true c = record { is = λ z w. first_part (int_le z (pos 0)) (not (at_least K e.v.hi e.u.lo l)) (and_parts (int_le c.value (pos 0)) (not (at_least K e.v.hi e.u.lo l)) c.allowed).1 }
 sign_of K e l h false c = record { is = λ z w. first_part (int_le (pos 0) z) (not (at_least K e.u.hi e.v.lo l)) (and_parts (int_le (pos 0) c.value) (not (at_least K e.u.hi e.v.lo l)) c.allowed).1 }
 
-way_reduces : (K : ℤ) (e : ArcEnds) (a b l h : ℤ) (low : Bool) → CanShrink low e.q (allows Way (reduces a b l h) K e OfFlow low) → IsBound low e.q (allows Way (reduces a b l h) K e OfFlow low) (pos 0)
+way_reduces : (K : ℤ) (e : ArcEnds) (a b l h : ℤ) (low : Bool) → CanShrink low e.q (allows Way (Reduces a b l h) K e OfFlow low) → IsBound low e.q (allows Way (Reduces a b l h) K e OfFlow low) (pos 0)
 way_reduces K e a b l h true c = record { is = λ z w. (λ t. t, λ t. t) }
 way_reduces K e a b l h false c = let t : false ≡ true = c.allowed in absurd cc
 
-way_raises : (K : ℤ) (e : ArcEnds) (a b n d r : ℤ) (low : Bool) → CanShrink low e.q (allows Way (raises a b n d r) K e OfFlow low) → IsBound low e.q (allows Way (raises a b n d r) K e OfFlow low) (pos 0)
+way_raises : (K : ℤ) (e : ArcEnds) (a b n d r : ℤ) (low : Bool) → CanShrink low e.q (allows Way (Raises a b n d r) K e OfFlow low) → IsBound low e.q (allows Way (Raises a b n d r) K e OfFlow low) (pos 0)
 way_raises K e a b n d r true c = record { is = λ z w. (λ t. t, λ t. t) }
 way_raises K e a b n d r false c = let t : false ≡ true = c.allowed in absurd cc
 
@@ -89,17 +90,17 @@ abbrev BoundBy : LawForm → ℤ → ArcEnds → Bool → ℤ → Rule → Type 
 BoundBy form K e low C rule = CanShrink low e.q (allows rule form K e OfFlow low) → IsBound low e.q (allows rule form K e OfFlow low) C
 
 -- each law but that of a resistance stops flows at 0
-pub zero_bound : (form : LawForm) (K : ℤ) (e : ArcEnds) (low : Bool) → ((law : Drag) → form ≡ drags law → ⊥) → (rule : Rule) → flow_rule form ≡ Some rule → CanShrink low e.q (allows rule form K e OfFlow low) → IsBound low e.q (allows rule form K e OfFlow low) (pos 0)
-zero_bound (drags law) K e low n rule s = absurd (n law refl)
-zero_bound shuts K e low n rule s = subst (BoundBy shuts K e low (pos 0)) (let r : Zero ≡ rule = cc in r) (λ c. zero_of K e low)
-zero_bound (loses l h) K e low n rule s = subst (BoundBy (loses l h) K e low (pos 0)) (let r : Sign ≡ rule = cc in r) (sign_of K e l h low)
-zero_bound (reduces a b l h) K e low n rule s = subst (BoundBy (reduces a b l h) K e low (pos 0)) (let r : Way ≡ rule = cc in r) (way_reduces K e a b l h low)
-zero_bound (raises a b k d m) K e low n rule s = subst (BoundBy (raises a b k d m) K e low (pos 0)) (let r : Way ≡ rule = cc in r) (way_raises K e a b k d m low)
-zero_bound equals K e low n rule s = absurd cc
-zero_bound never K e low n rule s = absurd cc
+pub zero_bound : (form : LawForm) (K : ℤ) (e : ArcEnds) (low : Bool) → ((law : PipeLaw) → form ≡ Drags law → ⊥) → (rule : Rule) → flow_rule form ≡ Some rule → CanShrink low e.q (allows rule form K e OfFlow low) → IsBound low e.q (allows rule form K e OfFlow low) (pos 0)
+zero_bound (Drags law) K e low n rule s = absurd (n law refl)
+zero_bound Shuts K e low n rule s = subst (BoundBy Shuts K e low (pos 0)) (let r : Zero ≡ rule = cc in r) (λ c. zero_of K e low)
+zero_bound (Loses l h) K e low n rule s = subst (BoundBy (Loses l h) K e low (pos 0)) (let r : Sign ≡ rule = cc in r) (sign_of K e l h low)
+zero_bound (Reduces a b l h) K e low n rule s = subst (BoundBy (Reduces a b l h) K e low (pos 0)) (let r : Way ≡ rule = cc in r) (way_reduces K e a b l h low)
+zero_bound (Raises a b k d m) K e low n rule s = subst (BoundBy (Raises a b k d m) K e low (pos 0)) (let r : Way ≡ rule = cc in r) (way_raises K e a b k d m low)
+zero_bound Equals K e low n rule s = absurd cc
+zero_bound Never K e low n rule s = absurd cc
 
-pub pipe_bound : (law : Drag) (K : ℤ) (e : ArcEnds) (low : Bool) (C : ℤ) → IsBound low e.q (allows Pipe (drags law) K e OfFlow low) C → (rule : Rule) → flow_rule (drags law) ≡ Some rule → CanShrink low e.q (allows rule (drags law) K e OfFlow low) → IsBound low e.q (allows rule (drags law) K e OfFlow low) C
-pipe_bound law K e low C h rule s = subst (BoundBy (drags law) K e low C) (let r : Pipe ≡ rule = cc in r) (λ c. h)
+pub pipe_bound : (law : PipeLaw) (K : ℤ) (e : ArcEnds) (low : Bool) (C : ℤ) → IsBound low e.q (allows Pipe (Drags law) K e OfFlow low) C → (rule : Rule) → flow_rule (Drags law) ≡ Some rule → CanShrink low e.q (allows rule (Drags law) K e OfFlow low) → IsBound low e.q (allows rule (Drags law) K e OfFlow low) C
+pipe_bound law K e low C h rule s = subst (BoundBy (Drags law) K e low C) (let r : Pipe ≡ rule = cc in r) (λ c. h)
 
 -- ---- steps
 -- a flow of an arc is its own
@@ -174,13 +175,3 @@ first_end p b a row form rule E m h r e f =
   where
     same : (n : ℕ) → (n == n) ≡ true
     same n = eq-eqb n n refl
-
--- a form that isn't the drop along a resistance
-pub no_drag : (form : Form) → ((law : Drag) → form ≡ forms.Drags law → ⊥) → (law : Drag) → law_of_form form ≡ drags law → ⊥
-no_drag (forms.Drags l) n law e = n l refl
-no_drag forms.Equals n law e = absurd cc
-no_drag forms.Shuts n law e = absurd cc
-no_drag (forms.Loses l h) n law e = absurd cc
-no_drag (forms.Reduces a b l h) n law e = absurd cc
-no_drag (forms.Raises a b k d r) n law e = absurd cc
-no_drag forms.Never n law e = absurd cc

@@ -14,7 +14,8 @@ use Rattle.element_laws.proofs.DropFits.{drag_parts, part_size}
 use Rattle.element_laws.proofs.RootFits.{wide_square_size}
 use Rattle.gas_model.specs.Curves.{square, drop_low, drop_high}
 use Rattle.tree_rules.proofs.UnitSound.{IsDrag}
-use Rattle.tree_rules.proofs.CurveLaws.{curve_forward, curve_back, curve_le}
+use Rattle.gas_model.proofs.CurveFacts.{curve_forward, curve_back}
+use Rattle.tree_rules.proofs.CurveLaws.{curve_le}
 use Rattle.gas_units.specs.Rounds.{IsFloor, IsCeiling, IsRootDown, IsRootUp}
 use Rattle.flow_propagate.specs.Drops.{IsLeastFlow, IsGreatestFlow}
 

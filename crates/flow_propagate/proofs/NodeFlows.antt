@@ -9,8 +9,8 @@ use Rattle.gas_model.specs.declared.rows.ArcRow.{ArcRow}
 use Rattle.gas_model.specs.declared.rows.NodeRow.{NodeRow}
 use Rattle.gas_model.specs.declared.rows.PartState.{PartState}
 use Rattle.gas_model.specs.declared.rows.Ends.{Ends}
-use Rattle.gas_model.specs.declared.rows.Var.{Var}
-use Rattle.gas_model.specs.declared.rows.Var.TheVariants.{Flow, Square}
+use Rattle.base_types.specs.declared.variables.Var.{Var}
+use Rattle.base_types.specs.declared.variables.Var.TheVariants.{Flow, Square}
 use Rattle.gas_model.specs.Rows.{Network}
 use Rattle.gas_model.specs.Boxes.{Bounds, ends_of, may_become}
 use Rattle.gas_model.specs.Points.{touches, arcs_at}
@@ -29,7 +29,7 @@ use Rattle.tight_steps.specs.NewEnds.{HasNoEnd, IsFirstEnd}
 use Rattle.tight_steps.specs.Moves.{is_of_law, is_flow, flow_number, rule_number, part_box, HasNoMove, IsFirstMove, IsMove}
 use Rattle.tight_steps.proofs.ArcMoves.{step_parts, step_from}
 use Rattle.tight_steps.proofs.OtherNodes.{node_move, node_from, node_is, flow_touches}
-use Rattle.flow_propagate.specs.FlowRules.{room}
+use Rattle.box_rules.specs.Balance.{balance_lets}
 use Rattle.flow_propagate.proofs.AtNode.{StandsAt, stands_at, earlier}
 
 -- the step of the balance of the node n that gives an end of the flow of the arc a the value C
@@ -53,8 +53,8 @@ other_side : (f t : Bool) → (f || t) ≡ true → f ≡ false → t ≡ true
 other_side true t h e = absurd cc
 other_side false t h e = h
 
-room_is : (p : Network) (b : PartBox) (n a : ℕ) (supply net q : Ends) (leaves low : Bool) (C : ℤ) → (s : Sums p b.scale b.bounds n a supply net q) → leaves ≡ (s.row.from == n) → flow_step p b n a low C s.node s.row ≡ room leaves supply net q low C
-room_is p b n a supply net q leaves low C s e =
+lets_is : (p : Network) (b : PartBox) (n a : ℕ) (supply net q : Ends) (leaves low : Bool) (C : ℤ) → (s : Sums p b.scale b.bounds n a supply net q) → leaves ≡ (s.row.from == n) → flow_step p b n a low C s.node s.row ≡ balance_lets leaves supply net q low C
+lets_is p b n a supply net q leaves low C s e =
     elim (eqb_tells s.row.from n) [
       | inl y ↦
           let l : leaves ≡ true = e ∙ y.0 in
@@ -70,7 +70,7 @@ room_is p b n a supply net q leaves low C s e =
 -- ---- steps
 -- a step on the flow of an arc at the node, as its rooms tell
 moved : (p : Network) (b : PartBox) (n a : ℕ) (supply net q : Ends) (leaves low : Bool) (C : ℤ) → (s : Sums p b.scale b.bounds n a supply net q) → leaves ≡ (s.row.from == n) → IsTrue (step_holds p b (balance_of n a low C))
-    → IsTrue (may_become low C q) × IsTrue (room leaves supply net q low C)
+    → IsTrue (may_become low C q) × IsTrue (balance_lets leaves supply net q low C)
 moved p b n a supply net q leaves low C s e t =
     let parts = step_parts p b (balance_of n a low C) t in
     let m = node_move p b n a low C parts.rule in
@@ -78,17 +78,17 @@ moved p b n a supply net q leaves low C s e t =
     let nodes : m.node ≡ s.node = cc (m.node_is, s.node_is) in
     let h1 : IsTrue (flow_step p b n a low C s.node m.row) = subst (λ (z : NodeRow). IsTrue (flow_step p b n a low C z m.row)) nodes m.holds in
     let h2 : IsTrue (flow_step p b n a low C s.node s.row) = subst (λ (z : ArcRow). IsTrue (flow_step p b n a low C s.node z)) rows h1 in
-    (subst (λ (z : Ends). IsTrue (may_become low C z)) (sym s.flow_is) parts.within, sym (room_is p b n a supply net q leaves low C s e) ∙ h2)
+    (subst (λ (z : Ends). IsTrue (may_become low C z)) (sym s.flow_is) parts.within, sym (lets_is p b n a supply net q leaves low C s e) ∙ h2)
 
-pub no_flow : (p : Network) (b : PartBox) (n a : ℕ) (supply net q : Ends) (leaves low : Bool) (C : ℤ) → (s : Sums p b.scale b.bounds n a supply net q) → leaves ≡ (s.row.from == n) → HasNoBest low q (room leaves supply net q low) → IsMove p b (balance_of n a low C) → ⊥
+pub no_flow : (p : Network) (b : PartBox) (n a : ℕ) (supply net q : Ends) (leaves low : Bool) (C : ℤ) → (s : Sums p b.scale b.bounds n a supply net q) → leaves ≡ (s.row.from == n) → HasNoBest low q (balance_lets leaves supply net q low) → IsMove p b (balance_of n a low C) → ⊥
 no_flow p b n a supply net q leaves low C s e none m =
     let x = moved p b n a supply net q leaves low C s e m.holds in
     none.none C x.0 x.1 (subst (λ (z : Ends). IsTrue (shrinks low C z)) (sym s.flow_is) m.shrinks)
 
-pub tight_flow : (p : Network) (b : PartBox) (n a : ℕ) (supply net q : Ends) (leaves low : Bool) (C : ℤ) → (s : Sums p b.scale b.bounds n a supply net q) → leaves ≡ (s.row.from == n) → IsBest low q (room leaves supply net q low) C
+pub tight_flow : (p : Network) (b : PartBox) (n a : ℕ) (supply net q : Ends) (leaves low : Bool) (C : ℤ) → (s : Sums p b.scale b.bounds n a supply net q) → leaves ≡ (s.row.from == n) → IsBest low q (balance_lets leaves supply net q low) C
     → IsTightest p b (balance_of n a low C) × IsTrue (shrinks low C (ends_of b.bounds (Flow a)))
 tight_flow p b n a supply net q leaves low C s e best =
-    let held : IsTrue (flow_step p b n a low C s.node s.row) = room_is p b n a supply net q leaves low C s e ∙ best.allowed in (
+    let held : IsTrue (flow_step p b n a low C s.node s.row) = lets_is p b n a supply net q leaves low C s e ∙ best.allowed in (
       record {
         holds = step_from p b (balance_of n a low C) (record {
           var = lt-ltb a (length p.arcs) (slice_get_within p.arcs a s.row s.row_is);
@@ -109,7 +109,7 @@ pub record NoneBefore (p : Network) (K : ℤ) (b : Bounds) (n : ℕ) (at : List 
 pub none_yet : (p : Network) (K : ℤ) (b : Bounds) (n : ℕ) (at : List ℕ) → NoneBefore p K b n at 0
 none_yet p K b n at = record { none = λ part j l low C m. absurd (omega arith) }
 
-pub one_more : (p : Network) (K : ℤ) (b : Bounds) (n : ℕ) (at : List ℕ) (k : ℕ) (supply net q : Ends) (leaves : Bool) → NoneBefore p K b n at k → (s : Sums p K b n (get_or at k 0) supply net q) → leaves ≡ (s.row.from == n) → HasNoEnd q (room leaves supply net q) → NoneBefore p K b n at (k + 1)
+pub one_more : (p : Network) (K : ℤ) (b : Bounds) (n : ℕ) (at : List ℕ) (k : ℕ) (supply net q : Ends) (leaves : Bool) → NoneBefore p K b n at k → (s : Sums p K b n (get_or at k 0) supply net q) → leaves ≡ (s.row.from == n) → HasNoEnd q (balance_lets leaves supply net q) → NoneBefore p K b n at (k + 1)
 one_more p K b n at k supply net q leaves h s e none = record {
   none = λ part j l low C m.
       elim (eqb_tells j k) [
@@ -167,7 +167,7 @@ before_by false true x y h = inl (omega arith)
 before_by true false x y h = elim (cases_lt x y) [ inl less ↦ inl less | inr more ↦ inr (omega arith, refl, refl) ]
 
 pub first_at_node : (p : Network) (K : ℤ) (b : Bounds) (n : ℕ) (at : List ℕ) (k : ℕ) (supply net q : Ends) (leaves : Bool) (m : NewEnd) (part : PartState) → at ≡ arcs_at p.arcs n → k < length at → NoneBefore p K b n at k
-    → (s : Sums p K b n (get_or at k 0) supply net q) → leaves ≡ (s.row.from == n) → IsFirstEnd q (room leaves supply net q) m
+    → (s : Sums p K b n (get_or at k 0) supply net q) → leaves ≡ (s.row.from == n) → IsFirstEnd q (balance_lets leaves supply net q) m
     → IsFirstMove p (part_box K part b) (AtNode n) is_flow flow_number (balance_of n (get_or at k 0) m.low m.value)
 first_at_node p K b n at k supply net q leaves m part same w h s e f =
     let box = part_box K part b in

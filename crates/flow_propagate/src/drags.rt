@@ -1,19 +1,20 @@
 // The flows that a resistance allows.
 ghost use Rattle.std.specs.Prelude.{◌≡◌, ◌^◌, IsTrue};
 ghost use Rattle.integer_laws.specs.Sizes.{IsWithin};
-ghost use Rattle.gas_model.specs.Laws.{drags};
+ghost use Rattle.gas_model.specs.declared.law_forms.LawForm.TheVariants.{Drags};
 ghost use Rattle.gas_model.specs.Limits.{is_drag_within};
-ghost use Rattle.box_rules.specs.ArcSides.{ends_of_sides, AreBoxSides};
+ghost use Rattle.gas_model.specs.Laws.{is_pipe_within};
+ghost use Rattle.box_rules.specs.ArcLimits.{AreBoxSides};
 ghost use Rattle.tree_cert.specs.declared.line.Rule.TheVariants.{Pipe};
-ghost use Rattle.tree_rules.specs.ArcRules.{OfFlow};
+ghost use Rattle.tree_rules.specs.declared.arc_vars.ArcVar.TheVariants.{OfFlow};
 ghost use Rattle.tight_steps.specs.Best.{IsBound};
 ghost use Rattle.tight_steps.specs.Moves.{allows};
 ghost use Rattle.flow_propagate.specs.Drops.{IsLeastFlow, IsGreatestFlow};
 
-use box_rules::ArcSides;
 use element_laws::drop_gap;
-use gas_model::Drag;
+use gas_model::{Drag, PipeLaw};
 use gas_units::{ceil_div, floor_div, root_down, root_up};
+use tree_rules::ArcEnds;
 
 // The least flow whose least drop, times the denominator, is at least the gap: forward the root of the gap's part by
 // the least factor, rounded up, and back the root of its part by the greatest factor, rounded down.
@@ -43,14 +44,14 @@ fn greatest_flow(law: &Drag, gap: i128) -> i128
 }
 
 /// Up to where the squares let an end of the flow go along a resistance.
-pub fn flow_to(law: &Drag, scale: i128, e: ArcSides, low: bool) -> i128
-    requires law { IsTrue (is_drag_within law.now) }
+pub fn flow_to(law: &PipeLaw, scale: i128, e: ArcEnds, low: bool) -> i128
+    requires law { IsTrue (is_pipe_within law.now) }
     requires ends { AreBoxSides scale e }
-    ensures { IsBound low e.q (allows Pipe (drags law.now) scale (ends_of_sides e) OfFlow low) result }
+    ensures { IsBound low e.q (allows Pipe (Drags law.now) scale e OfFlow low) result }
 {
     if low {
-        greatest_flow(law, drop_gap(law, scale, e.u.lo, e.v.hi))
+        greatest_flow(&law.drag, drop_gap(law, scale, e.u.lo, e.v.hi))
     } else {
-        least_flow(law, drop_gap(law, scale, e.u.hi, e.v.lo))
+        least_flow(&law.drag, drop_gap(law, scale, e.u.hi, e.v.lo))
     }
 }

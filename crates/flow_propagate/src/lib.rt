@@ -7,8 +7,5 @@ mod drags;
 mod nodes;
 mod propagate;
 
-pub use propagate::{best_flow, shut_flow};
+pub use propagate::{best_flow, best_flow_by_law, shut_flow};
 pub use tight_steps::Law;
-
-#[cfg(test)]
-mod tests;

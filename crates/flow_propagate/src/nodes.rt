@@ -4,50 +4,29 @@ ghost use Rattle.gas_model.specs.Boxes.{BoxFits};
 ghost use Rattle.gas_model.specs.declared.rows.PartState.{PartState};
 ghost use Rattle.element_laws.specs.Sizes.{AreSafeFlows};
 ghost use Rattle.box_rules.specs.Balance.{leaves_with, enters_with, AreSums};
-ghost use Rattle.tight_steps.specs.Best.{reaches};
+ghost use Rattle.tree_rules.specs.Looser.{reaches};
 ghost use Rattle.tight_steps.specs.NewEnds.{FirstEnd};
 ghost use Rattle.tight_steps.specs.Moves.{is_flow, flow_number, part_box, HasNoMove, IsFirstMove};
 ghost use Rattle.tight_steps.specs.declared.law.Law.TheVariants.{AtNode};
-ghost use Rattle.flow_propagate.specs.FlowRules.{room};
+ghost use Rattle.box_rules.specs.Balance.{balance_lets};
 
 use box_ends::ScaledBox;
-use box_rules::{left_over, net_flow, supply_of};
+use box_rules::{balance_bound, net_flow, supply_of};
 use gas_model::{Ends, Problem, Var};
 use tight_steps::{NewEnd, best_to};
 use tree_cert::{Rule, Step};
-
-// Up to where the balance lets an end of a flow go: the sums over all arcs leave to it what the supply lacks, and what
-// it gives by itself.
-fn room_to(leaves: bool, supply: Ends, net: Ends, q: Ends, low: bool) -> i128
-    requires supply { AreSums supply }
-    requires net { AreSums net }
-    requires flow { AreSafeFlows q }
-    ensures { (C : ℤ) → reaches low result C ≡ room leaves supply net q low C }
-{
-    if leaves {
-        if low {
-            left_over(supply.lo, net.hi, q.hi)
-        } else {
-            left_over(supply.hi, net.lo, q.lo)
-        }
-    } else if low {
-        left_over(net.lo, supply.hi, q.hi)
-    } else {
-        left_over(net.hi, supply.lo, q.lo)
-    }
-}
 
 // The first end of a flow that the balance moves.
 fn best_end(leaves: bool, supply: Ends, net: Ends, q: Ends) -> Option<NewEnd>
     requires supply { AreSums supply }
     requires net { AreSums net }
     requires flow { AreSafeFlows q }
-    ensures { FirstEnd q (room leaves supply net q) result }
+    ensures { FirstEnd q (balance_lets leaves supply net q) result }
 {
-    if let Some(value) = best_to(true, q, room_to(leaves, supply, net, q, true)) {
+    if let Some(value) = best_to(true, q, balance_bound(leaves, supply, net, q, true)) {
         return Some(NewEnd { low: true, value });
     }
-    let value = best_to(false, q, room_to(leaves, supply, net, q, false))?;
+    let value = best_to(false, q, balance_bound(leaves, supply, net, q, false))?;
     Some(NewEnd { low: false, value })
 }
 

@@ -4,16 +4,17 @@ use Rattle.std.specs.Prelude.{slice_get}
 use Rattle.std.specs.Option.{option_map_or}
 use Rattle.gas_model.specs.declared.rows.ArcRow.{ArcRow}
 use Rattle.gas_model.specs.Rows.{Network}
-use Rattle.gas_model.specs.Laws.{LawForm}
+use Rattle.gas_model.specs.declared.law_forms.LawForm.{LawForm}
 use Rattle.tree_cert.specs.declared.line.Rule.{Rule}
 use Rattle.tree_cert.specs.declared.line.Rule.TheVariants.{Balance}
 use Rattle.tree_cert.specs.declared.line.Closing.TheVariants.{At}
-use Rattle.tree_rules.specs.ArcRules.{ArcEnds, arc_closing}
+use Rattle.tree_rules.specs.declared.arc_vars.ArcEnds.{ArcEnds}
+use Rattle.tree_rules.specs.ArcRules.{arc_closing}
 use Rattle.tree_rules.specs.Rules.{PartBox, arc_ends, fixed_form, row_closing, closing_at}
 use Rattle.tight_steps.specs.Moves.{is_balance}
 use Rattle.tight_steps.proofs.ArcMoves.{HasForm}
 use Rattle.tight_steps.proofs.OtherArcs.{closing_at_arc}
-use Rattle.pressure_propagate.specs.SquareRules.{closing_rules, HasNoClosing, IsFirstClosing, ClosesNothing, IsFirstAtArc}
+use Rattle.pressure_propagate.specs.SquareRules.{closing_rules, HasNoClosing, IsFirstClosing, ArcClosesNothing, IsFirstAtArc}
 use Rattle.pressure_propagate.proofs.RuleLists.{StandsIn, ascend, ClosesNone, closes_or_not, closings_ascend, AreDone, all_done, done_before}
 
 -- ---- the rules of a law
@@ -47,7 +48,7 @@ closing_found form K e rules k rule same l is h t = record {
 }
 
 -- ---- closings of an arc
-pub unfixed_opens : (p : Network) (b : PartBox) (a : ℕ) (row : ArcRow) → slice_get p.arcs a ≡ Some row → fixed_form p b.part a row ≡ None → ClosesNothing p b a
+pub unfixed_opens : (p : Network) (b : PartBox) (a : ℕ) (row : ArcRow) → slice_get p.arcs a ≡ Some row → fixed_form p b.part a row ≡ None → ArcClosesNothing p b a
 unfixed_opens p b a row r f = record {
   none = λ rule n t.
       let t1 : IsTrue (option_map_or (row_closing p b rule a) (slice_get p.arcs a) false) = sym (closing_at_arc p b rule a n) ∙ t in
@@ -66,7 +67,7 @@ no_balance : (rule : Rule) (form : LawForm) (K : ℤ) (e : ArcEnds) → IsTrue (
 no_balance Balance form K e t = absurd cc
 no_balance rule form K e t = refl
 
-pub none_closes : (p : Network) (b : PartBox) (a : ℕ) (row : ArcRow) (form : LawForm) (E : ArcEnds) → HasForm p b a row form → E ≡ arc_ends b.bounds a row → HasNoClosing form b.scale E → ClosesNothing p b a
+pub none_closes : (p : Network) (b : PartBox) (a : ℕ) (row : ArcRow) (form : LawForm) (E : ArcEnds) → HasForm p b a row form → E ≡ arc_ends b.bounds a row → HasNoClosing form b.scale E → ArcClosesNothing p b a
 none_closes p b a row form E h e n =
     let here : HasNoClosing form b.scale (arc_ends b.bounds a row) = subst (λ (z : ArcEnds). HasNoClosing form b.scale z) e n in
     record { none = λ rule arc t. here.none rule (sym (closing_says p b rule a row form h arc) ∙ t) }

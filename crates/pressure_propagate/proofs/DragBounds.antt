@@ -7,14 +7,15 @@ use Rattle.integer_laws.proofs.Ring.{linear, le_or_lt, mul_le_left, mul_one, one
 use Rattle.integer_laws.proofs.SizeLemmas.{within_fits, within_parts, one_part, product_within, sum_within, difference_within}
 use Rattle.gas_model.specs.declared.rows.Drag.{Drag}
 use Rattle.gas_model.specs.BoxLimits.{IsScale}
-use Rattle.gas_model.specs.Limits.{is_drag_within, is_drag_part}
+use Rattle.gas_model.specs.Limits.{is_drag_within}
+use Rattle.base_types.specs.Numbers.{is_drag_part}
 use Rattle.gas_model.specs.Curves.{square, curve, drop_low, drop_high}
 use Rattle.gas_model.proofs.LimitFacts.{scale_size}
 use Rattle.gas_units.specs.Rounds.{IsFloor, IsCeiling}
 use Rattle.element_laws.specs.Sizes.{most_flow, is_wide_square}
 use Rattle.element_laws.proofs.DropFits.{drag_parts, part_from, part_most, part_size}
 use Rattle.element_laws.proofs.RootFits.{wide_square_size}
-use Rattle.element_laws.proofs.Curves.{curve_forward, curve_back}
+use Rattle.gas_model.proofs.CurveFacts.{curve_forward, curve_back}
 use Rattle.tight_steps.proofs.Allowed.{scale_one}
 
 negated : (m : ℕ) (z : ℤ) → IsWithin m z → IsWithin m (neg_ℤ z)

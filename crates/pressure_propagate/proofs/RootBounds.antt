@@ -7,36 +7,13 @@ use Rattle.integer_laws.specs.Sizes.{IsWithin}
 use Rattle.integer_laws.proofs.SizeLemmas.{within_fits, within_parts, one_part, product_within, sum_within, difference_within}
 use Rattle.gas_model.specs.Curves.{square, excess, at_least_zero, at_most, at_least}
 use Rattle.gas_model.specs.BoxLimits.{IsScale}
-use Rattle.gas_model.specs.Limits.{is_difference}
+use Rattle.base_types.specs.Numbers.{is_difference}
 use Rattle.element_laws.specs.Sizes.{is_wide_square, is_wide_difference}
 use Rattle.element_laws.proofs.RootFits.{wide_square_size, wide_difference_size}
-use Rattle.tree_rules.specs.Roots.{under_root, IsRootDown, IsRootUp}
+use Rattle.tree_rules.specs.TightestRoots.{under_root}
 use Rattle.tree_rules.proofs.CurveLaws.{square_scale, at_least_says, at_most_says, at_least_from, at_most_from}
 use Rattle.tree_rules.proofs.RootLaws.{greatest_at_most, least_at_least, greatest_at_least, no_at_least, least_at_most, each_at_most}
-use Rattle.gas_units.specs.Rounds.{IsRootDown as DownOf, IsRootUp as UpOf}
-
--- ---- roots of natural numbers
-down_is : (n r : ℕ) → DownOf n r → IsRootDown (pos n) (pos r)
-down_is n r h = record {
-  natural = omega (arith, linear);
-  at_most = omega (arith, linear, h.at_most);
-  greatest = λ s l. greatest n r h s l;
-}
-  where
-    greatest : (n r : ℕ) → DownOf n r → (s : ℤ) → square s ≤ℤ pos n → s ≤ℤ pos r
-    greatest n r h (pos k) l = omega (arith, linear, h.greatest k (omega (arith, linear, l)))
-    greatest n r h (negsuc k) l = omega (arith, linear)
-
-up_is : (n r : ℕ) → UpOf n r → IsRootUp (pos n) (pos r)
-up_is n r h = record {
-  natural = omega (arith, linear);
-  at_least = omega (arith, linear, h.at_least);
-  least = λ s p l. least n r h s p l;
-}
-  where
-    least : (n r : ℕ) → UpOf n r → (s : ℤ) → pos 0 ≤ℤ s → pos n ≤ℤ square s → pos r ≤ℤ s
-    least n r h (pos k) p l = omega (arith, linear, h.least k (omega (arith, linear, l)))
-    least n r h (negsuc k) p l = absurd (omega (arith, linear))
+use Rattle.gas_units.specs.Rounds.{IsRootDown, IsRootUp}
 
 -- ---- the number under the root
 under_sign : (e x : ℤ) → pos 0 ≤ℤ x → pos 0 ≤ℤ under_root e x
@@ -155,12 +132,12 @@ none_under : (n : ℕ) (e x : ℤ) → x <ℤ pos 0 → pos n ≡ at_least_zero 
 none_under n e x h is = let z : pos n ≡ pos 0 = is ∙ under_none e x h in omega (arith, linear, z)
 
 -- ---- the four formulas
-pub most_is : (K D e x : ℤ) (n m : ℕ) (C : ℤ) → IsRooted K D e → pos n ≡ at_least_zero (under_root e x) → DownOf n m → IsTrue (at_most K C x D) ↔ (C ≤ℤ (x +ℤ e *ℤ e +ℤ pos m))
+pub most_is : (K D e x : ℤ) (n m : ℕ) (C : ℤ) → IsRooted K D e → pos n ≡ at_least_zero (under_root e x) → IsRootDown n m → IsTrue (at_most K C x D) ↔ (C ≤ℤ (x +ℤ e *ℤ e +ℤ pos m))
 most_is K D e x n m C r is root =
     elim (le_or_lt (pos 0) x) [
       | inl fine ↦
           let u : pos n ≡ under_root (r.r *ℤ D) x = is ∙ under_same e x fine ∙ ap (λ (z : ℤ). under_root z x) r.is in
-          let f = greatest_at_most K r.r x D (pos m) C r.root fine (subst (λ (z : ℤ). IsRootDown z (pos m)) u (down_is n m root)) in
+          let f = greatest_at_most K r.r x D C n m r.root fine u root in
           let s : square e ≡ square (r.r *ℤ D) = ap square r.is in
           (λ t. omega (arith, linear, f.0 t, s), λ l. f.1 (omega (arith, linear, l, s)))
       | inr below ↦
@@ -170,12 +147,12 @@ most_is K D e x n m C r is root =
           (λ t. omega (arith, linear, f.0 t, r.squared, y), λ l. f.1 (omega (arith, linear, l, r.squared, y)))
     ]
 
-pub least_is : (K D e x : ℤ) (n m : ℕ) (C : ℤ) → IsRooted K D e → pos n ≡ at_least_zero (under_root e x) → UpOf n m → IsTrue (at_least K C x D) ↔ ((x +ℤ e *ℤ e +ℤ pos m) ≤ℤ C)
+pub least_is : (K D e x : ℤ) (n m : ℕ) (C : ℤ) → IsRooted K D e → pos n ≡ at_least_zero (under_root e x) → IsRootUp n m → IsTrue (at_least K C x D) ↔ ((x +ℤ e *ℤ e +ℤ pos m) ≤ℤ C)
 least_is K D e x n m C r is root =
     elim (le_or_lt (pos 0) x) [
       | inl fine ↦
           let u : pos n ≡ under_root (r.r *ℤ D) x = is ∙ under_same e x fine ∙ ap (λ (z : ℤ). under_root z x) r.is in
-          let f = least_at_least K r.r x D (pos m) C r.root fine (subst (λ (z : ℤ). IsRootUp z (pos m)) u (up_is n m root)) in
+          let f = least_at_least K r.r x D C n m r.root fine u root in
           let s : square e ≡ square (r.r *ℤ D) = ap square r.is in
           (λ t. omega (arith, linear, f.0 t, s), λ l. f.1 (omega (arith, linear, l, s)))
       | inr below ↦
@@ -188,11 +165,11 @@ least_is K D e x n m C r is root =
 from_square : (e y : ℤ) → (e *ℤ e) ≤ℤ y → pos 0 ≤ℤ y
 from_square e y h = omega (arith, linear, square_nonneg e)
 
-pub reach_is : (K D e y : ℤ) (n m : ℕ) (C : ℤ) → IsRooted K D e → (e *ℤ e) ≤ℤ y → pos n ≡ at_least_zero (under_root e y) → UpOf n m → pos 0 ≤ℤ C → IsTrue (at_least K y C D) ↔ (C ≤ℤ (y +ℤ e *ℤ e -ℤ pos m))
+pub reach_is : (K D e y : ℤ) (n m : ℕ) (C : ℤ) → IsRooted K D e → (e *ℤ e) ≤ℤ y → pos n ≡ at_least_zero (under_root e y) → IsRootUp n m → pos 0 ≤ℤ C → IsTrue (at_least K y C D) ↔ (C ≤ℤ (y +ℤ e *ℤ e -ℤ pos m))
 reach_is K D e y n m C r h is root p =
     let u : pos n ≡ under_root (r.r *ℤ D) y = is ∙ under_same e y (from_square e y h) ∙ ap (λ (z : ℤ). under_root z y) r.is in
     let s : square e ≡ square (r.r *ℤ D) = ap square r.is in
-    let f = greatest_at_least K r.r y D (pos m) C r.root (omega (arith, linear, h, s)) (subst (λ (z : ℤ). IsRootUp z (pos m)) u (up_is n m root)) p in
+    let f = greatest_at_least K r.r y D C n m r.root (omega (arith, linear, h, s)) u root p in
     (λ t. omega (arith, linear, f.0.0 t, s), λ l. f.0.1 (omega (arith, linear, l, s)))
 
 pub no_reach : (K D e y : ℤ) (C : ℤ) → IsRooted K D e → y <ℤ (e *ℤ e) → pos 0 ≤ℤ C → IsTrue (at_least K y C D) ↔ (C ≤ℤ negsuc 0)
@@ -200,11 +177,11 @@ no_reach K D e y C r h p =
     let s : square e ≡ square (r.r *ℤ D) = ap square r.is in
     (λ t. absurd (no_at_least K r.r y D C r.root (omega (arith, linear, h, s)) p t), λ l. absurd (omega (arith, linear)))
 
-pub apart_is : (K D e y : ℤ) (n m : ℕ) (C : ℤ) → IsRooted K D e → (e *ℤ e) ≤ℤ y → pos n ≡ at_least_zero (under_root e y) → DownOf n m → pos 0 ≤ℤ C → (IsTrue (at_most K y C D) ↔ ((y +ℤ e *ℤ e -ℤ pos m) ≤ℤ C)) × (pos 0 ≤ℤ (y +ℤ e *ℤ e -ℤ pos m))
+pub apart_is : (K D e y : ℤ) (n m : ℕ) (C : ℤ) → IsRooted K D e → (e *ℤ e) ≤ℤ y → pos n ≡ at_least_zero (under_root e y) → IsRootDown n m → pos 0 ≤ℤ C → (IsTrue (at_most K y C D) ↔ ((y +ℤ e *ℤ e -ℤ pos m) ≤ℤ C)) × (pos 0 ≤ℤ (y +ℤ e *ℤ e -ℤ pos m))
 apart_is K D e y n m C r h is root p =
     let u : pos n ≡ under_root (r.r *ℤ D) y = is ∙ under_same e y (from_square e y h) ∙ ap (λ (z : ℤ). under_root z y) r.is in
     let s : square e ≡ square (r.r *ℤ D) = ap square r.is in
-    let f = least_at_most K r.r y D (pos m) C r.root (omega (arith, linear, h, s)) (subst (λ (z : ℤ). IsRootDown z (pos m)) u (down_is n m root)) p in
+    let f = least_at_most K r.r y D C n m r.root (omega (arith, linear, h, s)) u root p in
     ((λ t. omega (arith, linear, f.0.0 t, s), λ l. f.0.1 (omega (arith, linear, l, s))), omega (arith, linear, f.1, s))
 
 pub all_apart : (K D e y : ℤ) (C : ℤ) → IsRooted K D e → y <ℤ (e *ℤ e) → pos 0 ≤ℤ C → IsTrue (at_most K y C D) ↔ (pos 0 ≤ℤ C)

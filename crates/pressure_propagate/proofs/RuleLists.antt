@@ -4,10 +4,12 @@ use Rattle.std.specs.Prelude.{nat_lt}
 use Rattle.std.specs.List.{list_all}
 use Rattle.std.proofs.lemmas.Bool.{and_parts}
 use Rattle.std.proofs.lemmas.Bool.Decides.{eqb_tells, nat_tests}
-use Rattle.gas_model.specs.Laws.{LawForm, drags, equals, shuts, loses, reduces, raises, never}
+use Rattle.gas_model.specs.declared.law_forms.LawForm.{LawForm}
+use Rattle.gas_model.specs.declared.law_forms.LawForm.TheVariants.{Drags, Equals, Shuts, Loses, Reduces, Raises, Never}
 use Rattle.tree_cert.specs.declared.line.Rule.{Rule}
 use Rattle.tree_cert.specs.declared.line.Rule.TheVariants.{Balance, Pipe, Equal, Zero, Way, Inner, Fall, Order, Rise, Ratio, Sign, Reach, Along, Drop}
-use Rattle.tree_rules.specs.ArcRules.{ArcEnds, zero_step, way_step, sign_step, arc_step, arc_closing}
+use Rattle.tree_rules.specs.declared.arc_vars.ArcEnds.{ArcEnds}
+use Rattle.tree_rules.specs.ArcRules.{zero_step, way_step, sign_step, arc_step, arc_closing}
 use Rattle.tight_steps.specs.Moves.{rule_number}
 use Rattle.pressure_propagate.specs.SquareRules.{square_rules, closing_rules, square_at}
 
@@ -70,13 +72,13 @@ done_before P rules k found a l e h rule s n =
 
 -- ---- the rules that move squares
 pub squares_ascend : (form : LawForm) → ascend (square_rules form) ≡ true
-squares_ascend (drags law) = refl
-squares_ascend equals = refl
-squares_ascend shuts = refl
-squares_ascend (loses l h) = refl
-squares_ascend (reduces a b l h) = refl
-squares_ascend (raises a b n d r) = refl
-squares_ascend never = refl
+squares_ascend (Drags law) = refl
+squares_ascend Equals = refl
+squares_ascend Shuts = refl
+squares_ascend (Loses l h) = refl
+squares_ascend (Reduces a b l h) = refl
+squares_ascend (Raises a b n d r) = refl
+squares_ascend Never = refl
 
 abbrev pub MovesNoSquare : Rule → LawForm → Type 0
 MovesNoSquare rule form = (K : ℤ) (e : ArcEnds) (from low : Bool) (C : ℤ) → arc_step rule form K e (square_at from) low C ≡ false
@@ -94,41 +96,41 @@ sign_none l K e true low C = refl
 sign_none l K e false low C = refl
 
 pub moves_or_not : (rule : Rule) (form : LawForm) → StandsIn (square_rules form) rule ⊎ MovesNoSquare rule form
-moves_or_not Pipe (drags law) = inl (record { at = 0; within = omega arith; is = refl })
-moves_or_not Equal equals = inl (record { at = 0; within = omega arith; is = refl })
-moves_or_not Reach (loses l h) = inl (record { at = 0; within = omega arith; is = refl })
-moves_or_not Along (loses l h) = inl (record { at = 1; within = omega arith; is = refl })
-moves_or_not Drop (loses l h) = inl (record { at = 2; within = omega arith; is = refl })
-moves_or_not Inner (reduces a b l h) = inl (record { at = 0; within = omega arith; is = refl })
-moves_or_not Fall (reduces a b l h) = inl (record { at = 1; within = omega arith; is = refl })
-moves_or_not Inner (raises a b n d r) = inl (record { at = 0; within = omega arith; is = refl })
-moves_or_not Order (raises a b n d r) = inl (record { at = 1; within = omega arith; is = refl })
-moves_or_not Rise (raises a b n d r) = inl (record { at = 2; within = omega arith; is = refl })
-moves_or_not Ratio (raises a b n d r) = inl (record { at = 3; within = omega arith; is = refl })
-moves_or_not Zero shuts = inr (λ K e from low C. zero_none from low C)
-moves_or_not Way (reduces a b l h) = inr (λ K e from low C. way_none from low C)
-moves_or_not Way (raises a b n d r) = inr (λ K e from low C. way_none from low C)
-moves_or_not Sign (loses l h) = inr (λ K e from low C. sign_none l K e from low C)
+moves_or_not Pipe (Drags law) = inl (record { at = 0; within = omega arith; is = refl })
+moves_or_not Equal Equals = inl (record { at = 0; within = omega arith; is = refl })
+moves_or_not Reach (Loses l h) = inl (record { at = 0; within = omega arith; is = refl })
+moves_or_not Along (Loses l h) = inl (record { at = 1; within = omega arith; is = refl })
+moves_or_not Drop (Loses l h) = inl (record { at = 2; within = omega arith; is = refl })
+moves_or_not Inner (Reduces a b l h) = inl (record { at = 0; within = omega arith; is = refl })
+moves_or_not Fall (Reduces a b l h) = inl (record { at = 1; within = omega arith; is = refl })
+moves_or_not Inner (Raises a b n d r) = inl (record { at = 0; within = omega arith; is = refl })
+moves_or_not Order (Raises a b n d r) = inl (record { at = 1; within = omega arith; is = refl })
+moves_or_not Rise (Raises a b n d r) = inl (record { at = 2; within = omega arith; is = refl })
+moves_or_not Ratio (Raises a b n d r) = inl (record { at = 3; within = omega arith; is = refl })
+moves_or_not Zero Shuts = inr (λ K e from low C. zero_none from low C)
+moves_or_not Way (Reduces a b l h) = inr (λ K e from low C. way_none from low C)
+moves_or_not Way (Raises a b n d r) = inr (λ K e from low C. way_none from low C)
+moves_or_not Sign (Loses l h) = inr (λ K e from low C. sign_none l K e from low C)
 moves_or_not rule form = inr (λ K e from low C. refl)
 
 -- ---- the rules that close boxes
 pub closings_ascend : (form : LawForm) → ascend (closing_rules form) ≡ true
-closings_ascend (drags law) = refl
-closings_ascend equals = refl
-closings_ascend shuts = refl
-closings_ascend (loses l h) = refl
-closings_ascend (reduces a b l h) = refl
-closings_ascend (raises a b n d r) = refl
-closings_ascend never = refl
+closings_ascend (Drags law) = refl
+closings_ascend Equals = refl
+closings_ascend Shuts = refl
+closings_ascend (Loses l h) = refl
+closings_ascend (Reduces a b l h) = refl
+closings_ascend (Raises a b n d r) = refl
+closings_ascend Never = refl
 
 abbrev pub ClosesNone : Rule → LawForm → Type 0
 ClosesNone rule form = (K : ℤ) (e : ArcEnds) → arc_closing rule form K e ≡ false
 
 pub closes_or_not : (rule : Rule) (form : LawForm) → StandsIn (closing_rules form) rule ⊎ ClosesNone rule form
-closes_or_not Pipe (drags law) = inl (record { at = 0; within = omega arith; is = refl })
-closes_or_not Reach (loses l h) = inl (record { at = 0; within = omega arith; is = refl })
-closes_or_not Drop (loses l h) = inl (record { at = 1; within = omega arith; is = refl })
-closes_or_not Fall (reduces a b l h) = inl (record { at = 0; within = omega arith; is = refl })
-closes_or_not Rise (raises a b n d r) = inl (record { at = 0; within = omega arith; is = refl })
-closes_or_not Ratio (raises a b n d r) = inl (record { at = 1; within = omega arith; is = refl })
+closes_or_not Pipe (Drags law) = inl (record { at = 0; within = omega arith; is = refl })
+closes_or_not Reach (Loses l h) = inl (record { at = 0; within = omega arith; is = refl })
+closes_or_not Drop (Loses l h) = inl (record { at = 1; within = omega arith; is = refl })
+closes_or_not Fall (Reduces a b l h) = inl (record { at = 0; within = omega arith; is = refl })
+closes_or_not Rise (Raises a b n d r) = inl (record { at = 0; within = omega arith; is = refl })
+closes_or_not Ratio (Raises a b n d r) = inl (record { at = 1; within = omega arith; is = refl })
 closes_or_not rule form = inr (λ K e. refl)

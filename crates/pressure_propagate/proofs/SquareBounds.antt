@@ -4,21 +4,24 @@ use Rattle.std.specs.Int.{w128}
 use Rattle.std.proofs.Math.Bool.{beq}
 use Rattle.std.proofs.lemmas.Bool.{and_parts, and_from}
 use Rattle.integer_laws.proofs.Ring.{linear, le_or_lt, mul_le_left, mul_add, mul_one, mul_comm}
-use Rattle.gas_model.specs.declared.rows.Drag.{Drag}
+use Rattle.gas_model.specs.declared.law_forms.PipeLaw.{PipeLaw}
 use Rattle.gas_model.specs.declared.rows.Ends.{Ends}
 use Rattle.gas_model.specs.BoxLimits.{AreSquareEnds}
 use Rattle.gas_model.specs.Curves.{square, drop_low, drop_high, at_most, at_least}
-use Rattle.gas_model.specs.Laws.{LawForm, drags, equals, shuts, loses, reduces, raises, never}
+use Rattle.gas_model.specs.declared.law_forms.LawForm.{LawForm}
+use Rattle.gas_model.specs.declared.law_forms.LawForm.TheVariants.{Drags, Equals, Shuts, Loses, Reduces, Raises, Never}
 use Rattle.gas_units.specs.Rounds.{IsFloor, IsCeiling}
-use Rattle.gas_model.specs.Limits.{is_ratio_part}
+use Rattle.base_types.specs.Numbers.{is_ratio_part}
 use Rattle.element_laws.specs.Sizes.{is_wide_square}
 use Rattle.element_laws.proofs.ScaledFits.{wide_fits}
-use Rattle.box_rules.specs.declared.arc_rules.ArcSides.{ArcSides}
-use Rattle.box_rules.specs.ArcSides.{ends_of_sides, AreSafeSides}
+use Rattle.box_rules.specs.ArcLimits.{AreSafeSides}
 use Rattle.tree_cert.specs.declared.line.Rule.{Rule}
 use Rattle.tree_cert.specs.declared.line.Rule.TheVariants.{Balance, Pipe, Equal, Zero, Way, Inner, Fall, Order, Rise, Ratio, Sign, Reach, Along, Drop}
-use Rattle.tree_rules.specs.ArcRules.{ArcEnds, OfFrom, OfTo, arc_step, keeps_sign}
-use Rattle.tight_steps.specs.Best.{CanShrink, IsBound, reaches}
+use Rattle.tree_rules.specs.declared.arc_vars.ArcEnds.{ArcEnds}
+use Rattle.tree_rules.specs.declared.arc_vars.ArcVar.TheVariants.{OfFrom, OfTo}
+use Rattle.tree_rules.specs.ArcRules.{arc_step, keeps_sign}
+use Rattle.tight_steps.specs.Best.{CanShrink, IsBound}
+use Rattle.tree_rules.specs.Looser.{reaches}
 use Rattle.tight_steps.specs.Moves.{allows, ends_at}
 use Rattle.tight_steps.proofs.Bests.{within_low}
 use Rattle.tight_steps.proofs.Allowed.{AreLimitedEnds}
@@ -64,65 +67,65 @@ abbrev pub KeepsApart : (K other D : ℤ) → (low : Bool) → (bound : ℤ) →
 KeepsApart K other D low bound = (C : ℤ) → pos 0 ≤ℤ C → IsTrue (apart K other D low C) ↔ IsTrue (reaches low bound C)
 
 -- ---- a constant loss
-pub reach_of : (l h K : ℤ) (e : ArcEnds) (from low : Bool) (bound : ℤ) → AreLimitedEnds K e → ReachesBy K (opposite e from low) h low bound → (low ≡ false → pos 0 ≤ℤ bound) → BoundsSquare (loses l h) K e from low Reach bound
+pub reach_of : (l h K : ℤ) (e : ArcEnds) (from low : Bool) (bound : ℤ) → AreLimitedEnds K e → ReachesBy K (opposite e from low) h low bound → (low ≡ false → pos 0 ≤ℤ bound) → BoundsSquare (Loses l h) K e from low Reach bound
 reach_of l h K e true true bound k r n c = record { is = (root_bound true e.u K bound (λ C. at_least K e.v.lo C h) k.u r n).is }
 reach_of l h K e true false bound k r n c = record { is = (root_bound false e.u K bound (λ C. at_least K C e.v.hi h) k.u r n).is }
 reach_of l h K e false true bound k r n c = record { is = (root_bound true e.v K bound (λ C. at_least K e.u.lo C h) k.v r n).is }
 reach_of l h K e false false bound k r n c = record { is = (root_bound false e.v K bound (λ C. at_least K C e.u.hi h) k.v r n).is }
 
-pub drop_of : (l h K : ℤ) (e : ArcEnds) (from low : Bool) (bound : ℤ) → AreLimitedEnds K e → KeepsApart K (opposite e from low) l low bound → (low ≡ false → pos 0 ≤ℤ bound) → BoundsSquare (loses l h) K e from low Drop bound
+pub drop_of : (l h K : ℤ) (e : ArcEnds) (from low : Bool) (bound : ℤ) → AreLimitedEnds K e → KeepsApart K (opposite e from low) l low bound → (low ≡ false → pos 0 ≤ℤ bound) → BoundsSquare (Loses l h) K e from low Drop bound
 drop_of l h K e true true bound k r n c = record { is = (dropped (int_le (pos 1) e.q.lo) true e.u K bound (λ C. at_most K C e.v.lo l) k.u r n (record { value = c.value; loosest = c.loosest; allowed = c.allowed })).is }
 drop_of l h K e true false bound k r n c = record { is = (dropped (int_le e.q.hi (negsuc 0)) false e.u K bound (λ C. at_most K e.v.hi C l) k.u r n (record { value = c.value; loosest = c.loosest; allowed = c.allowed })).is }
 drop_of l h K e false true bound k r n c = record { is = (dropped (int_le e.q.hi (negsuc 0)) true e.v K bound (λ C. at_most K C e.u.lo l) k.v r n (record { value = c.value; loosest = c.loosest; allowed = c.allowed })).is }
 drop_of l h K e false false bound k r n c = record { is = (dropped (int_le (pos 1) e.q.lo) false e.v K bound (λ C. at_most K e.u.hi C l) k.v r n (record { value = c.value; loosest = c.loosest; allowed = c.allowed })).is }
 
-along_of : (l h K : ℤ) (e : ArcEnds) (from low : Bool) → BoundsSquare (loses l h) K e from low Along (opposite e from low)
+along_of : (l h K : ℤ) (e : ArcEnds) (from low : Bool) → BoundsSquare (Loses l h) K e from low Along (opposite e from low)
 along_of l h K e true true c = record { is = (sided (int_le (pos 0) e.q.lo) true e.u e.v.lo (record { value = c.value; loosest = c.loosest; allowed = c.allowed })).is }
 along_of l h K e true false c = record { is = (sided (int_le e.q.hi (pos 0)) false e.u e.v.hi (record { value = c.value; loosest = c.loosest; allowed = c.allowed })).is }
 along_of l h K e false true c = record { is = (sided (int_le e.q.hi (pos 0)) true e.v e.u.lo (record { value = c.value; loosest = c.loosest; allowed = c.allowed })).is }
 along_of l h K e false false c = record { is = (sided (int_le (pos 0) e.q.lo) false e.v e.u.hi (record { value = c.value; loosest = c.loosest; allowed = c.allowed })).is }
 
-pub loses_rest : (rule : Rule) (l h K : ℤ) (e : ArcEnds) (from low : Bool) → rule ≢ Reach → rule ≢ Drop → BoundsSquare (loses l h) K e from low rule (opposite e from low)
+pub loses_rest : (rule : Rule) (l h K : ℤ) (e : ArcEnds) (from low : Bool) → rule ≢ Reach → rule ≢ Drop → BoundsSquare (Loses l h) K e from low rule (opposite e from low)
 loses_rest Reach l h K e from low n m = absurd (n refl)
 loses_rest Drop l h K e from low n m = absurd (m refl)
 loses_rest Along l h K e from low n m = along_of l h K e from low
-loses_rest Sign l h K e from low n m = never_bounds Sign (loses l h) K e from low (opposite e from low) (λ K e from low C. sign_none l K e from low C)
-loses_rest rule l h K e from low n m = never_bounds rule (loses l h) K e from low (opposite e from low) (λ K e from low C. refl)
+loses_rest Sign l h K e from low n m = never_bounds Sign (Loses l h) K e from low (opposite e from low) (λ K e from low C. sign_none l K e from low C)
+loses_rest rule l h K e from low n m = never_bounds rule (Loses l h) K e from low (opposite e from low) (λ K e from low C. refl)
 
 -- ---- a control valve
-inner_reduces : (a b l h K : ℤ) (e : ArcEnds) (from low : Bool) → BoundsSquare (reduces a b l h) K e from low Inner (inner_bound a b K from)
+inner_reduces : (a b l h K : ℤ) (e : ArcEnds) (from low : Bool) → BoundsSquare (Reduces a b l h) K e from low Inner (inner_bound a b K from)
 inner_reduces a b l h K e true true c = record { is = λ C w. (λ t. t, λ t. t) }
 inner_reduces a b l h K e false false c = record { is = λ C w. (λ t. t, λ t. t) }
 inner_reduces a b l h K e true false c = let t : false ≡ true = c.allowed in absurd cc
 inner_reduces a b l h K e false true c = let t : false ≡ true = c.allowed in absurd cc
 
 -- the bounds of both directions of a fall: at least `red_min` Pa, and within `red_max` Pa
-pub fall_apart : (a b l h K : ℤ) (e : ArcEnds) (from low : Bool) (bound : ℤ) → from ≡ low → AreLimitedEnds K e → KeepsApart K (opposite e from low) l low bound → (low ≡ false → pos 0 ≤ℤ bound) → BoundsSquare (reduces a b l h) K e from low Fall bound
+pub fall_apart : (a b l h K : ℤ) (e : ArcEnds) (from low : Bool) (bound : ℤ) → from ≡ low → AreLimitedEnds K e → KeepsApart K (opposite e from low) l low bound → (low ≡ false → pos 0 ≤ℤ bound) → BoundsSquare (Reduces a b l h) K e from low Fall bound
 fall_apart a b l h K e true true bound s k r n c = record { is = (root_bound true e.u K bound (λ C. at_most K C e.v.lo l) k.u r n).is }
 fall_apart a b l h K e false false bound s k r n c = record { is = (root_bound false e.v K bound (λ C. at_most K e.u.hi C l) k.v r n).is }
 fall_apart a b l h K e true false bound s k r n c = absurd cc
 fall_apart a b l h K e false true bound s k r n c = absurd cc
 
-pub fall_reach : (a b l h K : ℤ) (e : ArcEnds) (from low : Bool) (bound : ℤ) → from ≢ low → AreLimitedEnds K e → ReachesBy K (opposite e from low) h low bound → (low ≡ false → pos 0 ≤ℤ bound) → BoundsSquare (reduces a b l h) K e from low Fall bound
+pub fall_reach : (a b l h K : ℤ) (e : ArcEnds) (from low : Bool) (bound : ℤ) → from ≢ low → AreLimitedEnds K e → ReachesBy K (opposite e from low) h low bound → (low ≡ false → pos 0 ≤ℤ bound) → BoundsSquare (Reduces a b l h) K e from low Fall bound
 fall_reach a b l h K e true false bound s k r n c = record { is = (root_bound false e.u K bound (λ C. at_least K C e.v.hi h) k.u r n).is }
 fall_reach a b l h K e false true bound s k r n c = record { is = (root_bound true e.v K bound (λ C. at_least K e.u.lo C h) k.v r n).is }
 fall_reach a b l h K e true true bound s k r n c = absurd (s refl)
 fall_reach a b l h K e false false bound s k r n c = absurd (s refl)
 
-pub reduces_rest : (rule : Rule) (a b l h K : ℤ) (e : ArcEnds) (from low : Bool) → rule ≢ Fall → BoundsSquare (reduces a b l h) K e from low rule (inner_bound a b K from)
+pub reduces_rest : (rule : Rule) (a b l h K : ℤ) (e : ArcEnds) (from low : Bool) → rule ≢ Fall → BoundsSquare (Reduces a b l h) K e from low rule (inner_bound a b K from)
 reduces_rest Fall a b l h K e from low n = absurd (n refl)
 reduces_rest Inner a b l h K e from low n = inner_reduces a b l h K e from low
-reduces_rest Way a b l h K e from low n = never_bounds Way (reduces a b l h) K e from low (inner_bound a b K from) (λ K e from low C. way_none from low C)
-reduces_rest rule a b l h K e from low n = never_bounds rule (reduces a b l h) K e from low (inner_bound a b K from) (λ K e from low C. refl)
+reduces_rest Way a b l h K e from low n = never_bounds Way (Reduces a b l h) K e from low (inner_bound a b K from) (λ K e from low C. way_none from low C)
+reduces_rest rule a b l h K e from low n = never_bounds rule (Reduces a b l h) K e from low (inner_bound a b K from) (λ K e from low C. refl)
 
 -- ---- a station
-pub inner_raises : (a b num den r K : ℤ) (e : ArcEnds) (from low : Bool) → BoundsSquare (raises a b num den r) K e from low Inner (inner_bound a b K from)
+pub inner_raises : (a b num den r K : ℤ) (e : ArcEnds) (from low : Bool) → BoundsSquare (Raises a b num den r) K e from low Inner (inner_bound a b K from)
 inner_raises a b num den r K e true true c = record { is = λ C w. (λ t. t, λ t. t) }
 inner_raises a b num den r K e false false c = record { is = λ C w. (λ t. t, λ t. t) }
 inner_raises a b num den r K e true false c = let t : false ≡ true = c.allowed in absurd cc
 inner_raises a b num den r K e false true c = let t : false ≡ true = c.allowed in absurd cc
 
-pub rise_of : (a b num den r K : ℤ) (e : ArcEnds) (from low : Bool) (bound : ℤ) → AreLimitedEnds K e → ReachesBy K (opposite e from low) r low bound → (low ≡ false → pos 0 ≤ℤ bound) → BoundsSquare (raises a b num den r) K e from low Rise bound
+pub rise_of : (a b num den r K : ℤ) (e : ArcEnds) (from low : Bool) (bound : ℤ) → AreLimitedEnds K e → ReachesBy K (opposite e from low) r low bound → (low ≡ false → pos 0 ≤ℤ bound) → BoundsSquare (Raises a b num den r) K e from low Rise bound
 rise_of a b num den r K e true true bound k s n c = record { is = (root_bound true e.u K bound (λ C. at_least K e.v.lo C r) k.u s n).is }
 rise_of a b num den r K e false false bound k s n c = record { is = (root_bound false e.v K bound (λ C. at_least K C e.u.hi r) k.v s n).is }
 rise_of a b num den r K e true false bound k s n c = let t : false ≡ true = (and_parts (int_le (pos 0) c.value) false c.allowed).1 in absurd cc
@@ -152,7 +155,7 @@ ceiling_says n d q C one f = (
   λ h. let m = mul_le_left d q C (omega (arith, linear)) h in omega (arith, linear, m, f.at_least, mul_comm q d),
 )
 
-pub ratio_of : (a b num den r K : ℤ) (e : ArcEnds) (from low : Bool) (bound : ℤ) → IsRatioBound num den (opposite e from low) low bound → BoundsSquare (raises a b num den r) K e from low Ratio bound
+pub ratio_of : (a b num den r K : ℤ) (e : ArcEnds) (from low : Bool) (bound : ℤ) → IsRatioBound num den (opposite e from low) low bound → BoundsSquare (Raises a b num den r) K e from low Ratio bound
 ratio_of a b num den r K e true true bound h c = record {
   is = λ C w. let f = floor_says (square den *ℤ e.v.lo) (square num) bound C h.upper (h.floor refl) in (λ t. let s = f.0 (omega (arith, linear, t)) in omega (arith, linear, s), λ t. let s = f.1 (omega (arith, linear, t)) in omega (arith, linear, s));
 }
@@ -162,65 +165,65 @@ ratio_of a b num den r K e false false bound h c = record {
 ratio_of a b num den r K e true false bound h c = let t : false ≡ true = c.allowed in absurd cc
 ratio_of a b num den r K e false true bound h c = let t : false ≡ true = c.allowed in absurd cc
 
-order_of : (a b num den r K : ℤ) (e : ArcEnds) (from low : Bool) → BoundsSquare (raises a b num den r) K e from low Order (opposite e from low)
+order_of : (a b num den r K : ℤ) (e : ArcEnds) (from low : Bool) → BoundsSquare (Raises a b num den r) K e from low Order (opposite e from low)
 order_of a b num den r K e true false c = record { is = λ C w. (λ t. t, λ t. t) }
 order_of a b num den r K e false true c = record { is = λ C w. (λ t. t, λ t. t) }
 order_of a b num den r K e true true c = let t : false ≡ true = c.allowed in absurd cc
 order_of a b num den r K e false false c = let t : false ≡ true = c.allowed in absurd cc
 
-pub raises_rest : (rule : Rule) (a b num den r K : ℤ) (e : ArcEnds) (from low : Bool) → rule ≢ Inner → rule ≢ Rise → rule ≢ Ratio → BoundsSquare (raises a b num den r) K e from low rule (opposite e from low)
+pub raises_rest : (rule : Rule) (a b num den r K : ℤ) (e : ArcEnds) (from low : Bool) → rule ≢ Inner → rule ≢ Rise → rule ≢ Ratio → BoundsSquare (Raises a b num den r) K e from low rule (opposite e from low)
 raises_rest Inner a b num den r K e from low n m o = absurd (n refl)
 raises_rest Rise a b num den r K e from low n m o = absurd (m refl)
 raises_rest Ratio a b num den r K e from low n m o = absurd (o refl)
 raises_rest Order a b num den r K e from low n m o = order_of a b num den r K e from low
-raises_rest Way a b num den r K e from low n m o = never_bounds Way (raises a b num den r) K e from low (opposite e from low) (λ K e from low C. way_none from low C)
-raises_rest rule a b num den r K e from low n m o = never_bounds rule (raises a b num den r) K e from low (opposite e from low) (λ K e from low C. refl)
+raises_rest Way a b num den r K e from low n m o = never_bounds Way (Raises a b num den r) K e from low (opposite e from low) (λ K e from low C. way_none from low C)
+raises_rest rule a b num den r K e from low n m o = never_bounds rule (Raises a b num den r) K e from low (opposite e from low) (λ K e from low C. refl)
 
 -- ---- a resistance
 -- the bounds by the least and the greatest drop
-pub from_low : (law : Drag) (K : ℤ) (e : ArcEnds) (q : ℤ) → pos 1 ≤ℤ (law.den *ℤ K) → IsFloor (drop_low law e.q.lo) (law.den *ℤ K) q → IsBound true e.u (allows Pipe (drags law) K e OfFrom true) (e.v.lo +ℤ q)
+pub from_low : (law : PipeLaw) (K : ℤ) (e : ArcEnds) (q : ℤ) → pos 1 ≤ℤ (law.drag.den *ℤ K) → IsFloor (drop_low law.drag e.q.lo) (law.drag.den *ℤ K) q → IsBound true e.u (allows Pipe (Drags law) K e OfFrom true) (e.v.lo +ℤ q)
 from_low law K e q one f = record {
-  is = λ C w. let s = floor_says (drop_low law e.q.lo) (law.den *ℤ K) q (C -ℤ e.v.lo) one f in (λ t. let x = s.0 (omega (arith, linear, t)) in omega (arith, linear, x), λ t. let x = s.1 (omega (arith, linear, t)) in omega (arith, linear, x));
+  is = λ C w. let s = floor_says (drop_low law.drag e.q.lo) (law.drag.den *ℤ K) q (C -ℤ e.v.lo) one f in (λ t. let x = s.0 (omega (arith, linear, t)) in omega (arith, linear, x), λ t. let x = s.1 (omega (arith, linear, t)) in omega (arith, linear, x));
 }
 
-pub from_high : (law : Drag) (K : ℤ) (e : ArcEnds) (q : ℤ) → pos 1 ≤ℤ (law.den *ℤ K) → IsCeiling (drop_high law e.q.hi) (law.den *ℤ K) q → IsBound false e.u (allows Pipe (drags law) K e OfFrom false) (e.v.hi +ℤ q)
+pub from_high : (law : PipeLaw) (K : ℤ) (e : ArcEnds) (q : ℤ) → pos 1 ≤ℤ (law.drag.den *ℤ K) → IsCeiling (drop_high law.drag e.q.hi) (law.drag.den *ℤ K) q → IsBound false e.u (allows Pipe (Drags law) K e OfFrom false) (e.v.hi +ℤ q)
 from_high law K e q one f = record {
-  is = λ C w. let s = ceiling_says (drop_high law e.q.hi) (law.den *ℤ K) q (C -ℤ e.v.hi) one f in (λ t. let x = s.0 (omega (arith, linear, t)) in omega (arith, linear, x), λ t. let x = s.1 (omega (arith, linear, t)) in omega (arith, linear, x));
+  is = λ C w. let s = ceiling_says (drop_high law.drag e.q.hi) (law.drag.den *ℤ K) q (C -ℤ e.v.hi) one f in (λ t. let x = s.0 (omega (arith, linear, t)) in omega (arith, linear, x), λ t. let x = s.1 (omega (arith, linear, t)) in omega (arith, linear, x));
 }
 
-pub to_low : (law : Drag) (K : ℤ) (e : ArcEnds) (q : ℤ) → pos 1 ≤ℤ (law.den *ℤ K) → IsCeiling (drop_high law e.q.hi) (law.den *ℤ K) q → IsBound true e.v (allows Pipe (drags law) K e OfTo true) (e.u.lo -ℤ q)
+pub to_low : (law : PipeLaw) (K : ℤ) (e : ArcEnds) (q : ℤ) → pos 1 ≤ℤ (law.drag.den *ℤ K) → IsCeiling (drop_high law.drag e.q.hi) (law.drag.den *ℤ K) q → IsBound true e.v (allows Pipe (Drags law) K e OfTo true) (e.u.lo -ℤ q)
 to_low law K e q one f = record {
-  is = λ C w. let s = ceiling_says (drop_high law e.q.hi) (law.den *ℤ K) q (e.u.lo -ℤ C) one f in (λ t. let x = s.0 (omega (arith, linear, t)) in omega (arith, linear, x), λ t. let x = s.1 (omega (arith, linear, t)) in omega (arith, linear, x));
+  is = λ C w. let s = ceiling_says (drop_high law.drag e.q.hi) (law.drag.den *ℤ K) q (e.u.lo -ℤ C) one f in (λ t. let x = s.0 (omega (arith, linear, t)) in omega (arith, linear, x), λ t. let x = s.1 (omega (arith, linear, t)) in omega (arith, linear, x));
 }
 
-pub to_high : (law : Drag) (K : ℤ) (e : ArcEnds) (q : ℤ) → pos 1 ≤ℤ (law.den *ℤ K) → IsFloor (drop_low law e.q.lo) (law.den *ℤ K) q → IsBound false e.v (allows Pipe (drags law) K e OfTo false) (e.u.hi -ℤ q)
+pub to_high : (law : PipeLaw) (K : ℤ) (e : ArcEnds) (q : ℤ) → pos 1 ≤ℤ (law.drag.den *ℤ K) → IsFloor (drop_low law.drag e.q.lo) (law.drag.den *ℤ K) q → IsBound false e.v (allows Pipe (Drags law) K e OfTo false) (e.u.hi -ℤ q)
 to_high law K e q one f = record {
-  is = λ C w. let s = floor_says (drop_low law e.q.lo) (law.den *ℤ K) q (e.u.hi -ℤ C) one f in (λ t. let x = s.0 (omega (arith, linear, t)) in omega (arith, linear, x), λ t. let x = s.1 (omega (arith, linear, t)) in omega (arith, linear, x));
+  is = λ C w. let s = floor_says (drop_low law.drag e.q.lo) (law.drag.den *ℤ K) q (e.u.hi -ℤ C) one f in (λ t. let x = s.0 (omega (arith, linear, t)) in omega (arith, linear, x), λ t. let x = s.1 (omega (arith, linear, t)) in omega (arith, linear, x));
 }
 
-pub drags_rest : (rule : Rule) (law : Drag) (K : ℤ) (e : ArcEnds) (from low : Bool) (bound : ℤ) → IsBound low (ends_at e (square_at from)) (allows Pipe (drags law) K e (square_at from) low) bound → BoundsSquare (drags law) K e from low rule bound
+pub drags_rest : (rule : Rule) (law : PipeLaw) (K : ℤ) (e : ArcEnds) (from low : Bool) (bound : ℤ) → IsBound low (ends_at e (square_at from)) (allows Pipe (Drags law) K e (square_at from) low) bound → BoundsSquare (Drags law) K e from low rule bound
 drags_rest Pipe law K e from low bound h = λ c. h
-drags_rest rule law K e from low bound h = never_bounds rule (drags law) K e from low bound (λ K e from low C. refl)
+drags_rest rule law K e from low bound h = never_bounds rule (Drags law) K e from low bound (λ K e from low C. refl)
 
 -- ---- equal squares, and laws that move none
-equal_of : (K : ℤ) (e : ArcEnds) (from low : Bool) → BoundsSquare equals K e from low Equal (opposite e from low)
+equal_of : (K : ℤ) (e : ArcEnds) (from low : Bool) → BoundsSquare Equals K e from low Equal (opposite e from low)
 equal_of K e true true c = record { is = λ C w. (λ t. t, λ t. t) }
 equal_of K e true false c = record { is = λ C w. (λ t. t, λ t. t) }
 equal_of K e false true c = record { is = λ C w. (λ t. t, λ t. t) }
 equal_of K e false false c = record { is = λ C w. (λ t. t, λ t. t) }
 
-pub equals_all : (rule : Rule) (K : ℤ) (e : ArcEnds) (from low : Bool) → BoundsSquare equals K e from low rule (opposite e from low)
+pub equals_all : (rule : Rule) (K : ℤ) (e : ArcEnds) (from low : Bool) → BoundsSquare Equals K e from low rule (opposite e from low)
 equals_all Equal K e from low = equal_of K e from low
-equals_all rule K e from low = never_bounds rule equals K e from low (opposite e from low) (λ K e from low C. refl)
+equals_all rule K e from low = never_bounds rule Equals K e from low (opposite e from low) (λ K e from low C. refl)
 
-pub shuts_all : (rule : Rule) (K : ℤ) (e : ArcEnds) (from low : Bool) (bound : ℤ) → BoundsSquare shuts K e from low rule bound
-shuts_all Zero K e from low bound = never_bounds Zero shuts K e from low bound (λ K e from low C. zero_none from low C)
-shuts_all rule K e from low bound = never_bounds rule shuts K e from low bound (λ K e from low C. refl)
+pub shuts_all : (rule : Rule) (K : ℤ) (e : ArcEnds) (from low : Bool) (bound : ℤ) → BoundsSquare Shuts K e from low rule bound
+shuts_all Zero K e from low bound = never_bounds Zero Shuts K e from low bound (λ K e from low C. zero_none from low C)
+shuts_all rule K e from low bound = never_bounds rule Shuts K e from low bound (λ K e from low C. refl)
 
-pub never_all : (rule : Rule) (K : ℤ) (e : ArcEnds) (from low : Bool) (bound : ℤ) → BoundsSquare never K e from low rule bound
-never_all rule K e from low bound = never_bounds rule never K e from low bound (λ K e from low C. never_moves rule K e from low C)
+pub never_all : (rule : Rule) (K : ℤ) (e : ArcEnds) (from low : Bool) (bound : ℤ) → BoundsSquare Never K e from low rule bound
+never_all rule K e from low bound = never_bounds rule Never K e from low bound (λ K e from low C. never_moves rule K e from low C)
   where
-    never_moves : (rule : Rule) (K : ℤ) (e : ArcEnds) (from low : Bool) (C : ℤ) → arc_step rule never K e (square_at from) low C ≡ false
+    never_moves : (rule : Rule) (K : ℤ) (e : ArcEnds) (from low : Bool) (C : ℤ) → arc_step rule Never K e (square_at from) low C ≡ false
     never_moves Balance K e from low C = refl
     never_moves rule K e from low C = refl
 
@@ -229,14 +232,14 @@ pub square_limits : (K : ℤ) (e : ArcEnds) (from : Bool) → AreLimitedEnds K e
 square_limits K e true h = h.u
 square_limits K e false h = h.v
 
-pub wide_opposite : (e : ArcSides) (from low : Bool) → AreSafeSides e → IsTrue (is_wide_square (opposite (ends_of_sides e) from low))
+pub wide_opposite : (e : ArcEnds) (from low : Bool) → AreSafeSides e → IsTrue (is_wide_square (opposite e from low))
 wide_opposite e true true h = h.v.lo
 wide_opposite e true false h = h.v.hi
 wide_opposite e false true h = h.u.lo
 wide_opposite e false false h = h.u.hi
 
-pub opposite_fits : (e : ArcSides) (from low : Bool) → AreSafeSides e → FitsSigned w128 (opposite (ends_of_sides e) from low)
-opposite_fits e from low h = wide_fits (opposite (ends_of_sides e) from low) (wide_opposite e from low h)
+pub opposite_fits : (e : ArcEnds) (from low : Bool) → AreSafeSides e → FitsSigned w128 (opposite e from low)
+opposite_fits e from low h = wide_fits (opposite e from low) (wide_opposite e from low h)
 
 pub one_squared : (d : ℤ) → IsTrue (is_ratio_part d) → pos 1 ≤ℤ square d
 one_squared d t =

@@ -4,15 +4,18 @@ use Rattle.std.specs.Prelude.{slice_get}
 use Rattle.std.proofs.lemmas.Bool.{and_parts}
 use borrow.Author.Tests.{lt-ltb}
 use Rattle.gas_model.specs.declared.rows.ArcRow.{ArcRow}
-use Rattle.gas_model.specs.declared.rows.Var.{Var}
-use Rattle.gas_model.specs.declared.rows.Var.TheVariants.{Flow, Square}
+use Rattle.base_types.specs.declared.variables.Var.{Var}
+use Rattle.base_types.specs.declared.variables.Var.TheVariants.{Flow, Square}
 use Rattle.gas_model.specs.Rows.{Network}
 use Rattle.gas_model.specs.Within.{IsWithin}
-use Rattle.gas_model.specs.Laws.{LawForm}
+use Rattle.gas_model.specs.declared.law_forms.LawForm.{LawForm}
 use Rattle.tree_cert.specs.declared.line.Rule.{Rule}
 use Rattle.tree_cert.specs.declared.line.Rule.TheVariants.{Balance, Pipe, Equal, Zero, Way, Inner, Fall, Order, Rise, Ratio, Sign, Reach, Along, Drop}
 use Rattle.tree_cert.specs.declared.line.Step.{Step}
-use Rattle.tree_rules.specs.ArcRules.{ArcEnds, ArcVar, OfFrom, OfTo, arc_step, keeps_sign}
+use Rattle.tree_rules.specs.declared.arc_vars.ArcEnds.{ArcEnds}
+use Rattle.tree_rules.specs.declared.arc_vars.ArcVar.{ArcVar}
+use Rattle.tree_rules.specs.declared.arc_vars.ArcVar.TheVariants.{OfFrom, OfTo}
+use Rattle.tree_rules.specs.ArcRules.{arc_step, keeps_sign}
 use Rattle.tree_rules.specs.Rules.{PartBox, arc_ends, arc_var, fixed_form}
 use Rattle.tight_steps.specs.declared.law.Law.TheVariants.{AtArc}
 use Rattle.tight_steps.specs.Best.{IsBest, HasNoBest, shrinks}

@@ -1,14 +1,18 @@
 -- The rules that move squares, and those that close boxes, by the form of a law.
 use Rattle.std.specs.Prelude.{◌≡◌, ℕ, ◌<◌, not, IsTrue, ℤ, pos, ◌*ℤ◌, ◌≤ℤ◌, Bool, true, false, List, [], ◌∷◌}
 use Rattle.gas_model.specs.Curves.{square, at_most, at_least}
-use Rattle.gas_model.specs.Laws.{LawForm, drags, equals, loses, reduces, raises}
+use Rattle.gas_model.specs.declared.law_forms.LawForm.{LawForm}
+use Rattle.gas_model.specs.declared.law_forms.LawForm.TheVariants.{Drags, Equals, Loses, Reduces, Raises}
 use Rattle.gas_model.specs.Rows.{Network}
 use Rattle.gas_units.specs.Rounds.{IsFloor, IsCeiling}
 use Rattle.tree_cert.specs.declared.line.Rule.{Rule}
 use Rattle.tree_cert.specs.declared.line.Rule.TheVariants.{Pipe, Equal, Inner, Fall, Order, Rise, Ratio, Reach, Along, Drop}
 use Rattle.tree_cert.specs.declared.line.Closing.{Closing}
 use Rattle.tree_cert.specs.declared.line.Closing.TheVariants.{At}
-use Rattle.tree_rules.specs.ArcRules.{ArcEnds, ArcVar, OfFrom, OfTo, arc_closing}
+use Rattle.tree_rules.specs.declared.arc_vars.ArcEnds.{ArcEnds}
+use Rattle.tree_rules.specs.declared.arc_vars.ArcVar.{ArcVar}
+use Rattle.tree_rules.specs.declared.arc_vars.ArcVar.TheVariants.{OfFrom, OfTo}
+use Rattle.tree_rules.specs.ArcRules.{arc_closing}
 use Rattle.tree_rules.specs.Rules.{PartBox, closing_holds}
 use Rattle.tight_steps.specs.Best.{IsBest, HasNoBest, CanShrink, IsBound}
 use Rattle.tight_steps.specs.Moves.{allows, ends_at, is_balance, rule_number}
@@ -17,19 +21,19 @@ use Rattle.pressure_propagate.specs.declared.ends.RuleValue.{RuleValue}
 
 -- the rules by which the law of an arc moves squares, in order
 abbrev pub square_rules : LawForm → List Rule
-square_rules (drags law) = Pipe ∷ []
-square_rules equals = Equal ∷ []
-square_rules (loses low high) = Reach ∷ Along ∷ Drop ∷ []
-square_rules (reduces in_min out_max red_min red_max) = Inner ∷ Fall ∷ []
-square_rules (raises in_min out_max ratio_num ratio_den rise_max) = Inner ∷ Order ∷ Rise ∷ Ratio ∷ []
+square_rules (Drags law) = Pipe ∷ []
+square_rules Equals = Equal ∷ []
+square_rules (Loses low high) = Reach ∷ Along ∷ Drop ∷ []
+square_rules (Reduces in_min out_max red_min red_max) = Inner ∷ Fall ∷ []
+square_rules (Raises in_min out_max ratio_num ratio_den rise_max) = Inner ∷ Order ∷ Rise ∷ Ratio ∷ []
 square_rules form = []
 
 -- the rules by which it closes boxes, in order
 abbrev pub closing_rules : LawForm → List Rule
-closing_rules (drags law) = Pipe ∷ []
-closing_rules (loses low high) = Reach ∷ Drop ∷ []
-closing_rules (reduces in_min out_max red_min red_max) = Fall ∷ []
-closing_rules (raises in_min out_max ratio_num ratio_den rise_max) = Rise ∷ Ratio ∷ []
+closing_rules (Drags law) = Pipe ∷ []
+closing_rules (Loses low high) = Reach ∷ Drop ∷ []
+closing_rules (Reduces in_min out_max red_min red_max) = Fall ∷ []
+closing_rules (Raises in_min out_max ratio_num ratio_den rise_max) = Rise ∷ Ratio ∷ []
 closing_rules form = []
 
 -- the square at the `from` of an arc, or at its `to`
@@ -96,7 +100,7 @@ pub record IsFirstClosing (form : LawForm) (K : ℤ) (e : ArcEnds) (rule : Rule)
   pub first : (other : Rule) → rule_number other < rule_number rule → IsTrue (arc_closing other form K e) → ⊥
 
 -- no closing of the arc a holds in the box, or this is the first that does
-pub record ClosesNothing (p : Network) (b : PartBox) (a : ℕ) : Type 0 where
+pub record ArcClosesNothing (p : Network) (b : PartBox) (a : ℕ) : Type 0 where
   pub none : (rule : Rule) → IsTrue (not (is_balance rule)) → IsTrue (closing_holds p b (At rule a)) → ⊥
 
 pub record IsFirstAtArc (p : Network) (b : PartBox) (a : ℕ) (closing : Closing) : Type 0 where

@@ -1,47 +1,49 @@
 // Up to where the rules of an arc let an end of a square go, where they move it.
 ghost use Rattle.std.specs.Prelude.{◌≡◌, ℤ, IsTrue};
 ghost use Rattle.gas_model.specs.BoxLimits.{IsScale};
-ghost use Rattle.gas_model.specs.Laws.{drags, loses, reduces, raises};
-ghost use Rattle.gas_model.specs.Limits.{is_difference, is_drag_within, is_ratio_part};
+ghost use Rattle.gas_model.specs.declared.law_forms.LawForm.TheVariants.{Drags, Loses, Reduces, Raises};
+ghost use Rattle.gas_model.specs.Laws.{is_pipe_within};
+ghost use Rattle.base_types.specs.Numbers.{is_difference, is_ratio_part};
 ghost use Rattle.element_laws.specs.Sizes.{is_wide_square};
-ghost use Rattle.box_rules.specs.ArcSides.{ends_of_sides, law_of_form, IsFormWithin, AreBoxSides};
+ghost use Rattle.box_rules.specs.ArcLimits.{IsFormWithin, AreBoxSides};
 ghost use Rattle.tree_cert.specs.declared.line.Rule.TheVariants.{Pipe, Fall};
 ghost use Rattle.tight_steps.specs.Best.{IsBound};
 ghost use Rattle.tight_steps.specs.Moves.{allows, ends_at};
 ghost use Rattle.pressure_propagate.specs.SquareRules.{square_at, opposite, inner_bound, BoundsSquare, IsRatioBound};
 
-use crate::roots::{apart_bound, reach_bound};
-use box_rules::{ArcSides, Form};
-use element_laws::{drop_high, drop_low, ratio_square, scaled_square};
-use gas_model::Drag;
+use crate::root_bounds::{apart_bound, reach_bound};
+use box_ends::scaled_square;
+use element_laws::{drop_high, drop_low, ratio_square};
+use gas_model::{LawForm, PipeLaw};
 use gas_units::{ceil_div, floor_div};
 use tree_cert::Rule;
+use tree_rules::ArcEnds;
 
 // The end of the square at the other end of the arc.
-fn opposite(e: ArcSides, from: bool, low: bool) -> i128
-    ensures { result ≡ opposite (ends_of_sides e) from low }
+fn opposite(e: ArcEnds, from: bool, low: bool) -> i128
+    ensures { result ≡ opposite e from low }
 {
     let other = if from { e.v } else { e.u };
     if low { other.lo } else { other.hi }
 }
 
 // By the drop along a resistance: the other square and the drop at the least or the greatest flow.
-fn drag_bound(law: &Drag, scale: i128, e: ArcSides, from: bool, low: bool) -> i128
-    requires law { IsTrue (is_drag_within law.now) }
+fn drag_bound(law: &PipeLaw, scale: i128, e: ArcEnds, from: bool, low: bool) -> i128
+    requires law { IsTrue (is_pipe_within law.now) }
     requires ends { AreBoxSides scale e }
-    ensures { IsBound low (ends_at (ends_of_sides e) (square_at from)) (allows Pipe (drags law.now) scale (ends_of_sides e) (square_at from) low) result }
+    ensures { IsBound low (ends_at e (square_at from)) (allows Pipe (Drags law.now) scale e (square_at from) low) result }
 {
-    let part = law.den as i128 * scale;
+    let part = law.drag.den as i128 * scale;
     if from {
         if low {
-            e.v.lo + floor_div(drop_low(law, e.q.lo), part)
+            e.v.lo + floor_div(drop_low(&law.drag, e.q.lo), part)
         } else {
-            e.v.hi + ceil_div(drop_high(law, e.q.hi), part)
+            e.v.hi + ceil_div(drop_high(&law.drag, e.q.hi), part)
         }
     } else if low {
-        e.u.lo - ceil_div(drop_high(law, e.q.hi), part)
+        e.u.lo - ceil_div(drop_high(&law.drag, e.q.hi), part)
     } else {
-        e.u.hi - floor_div(drop_low(law, e.q.lo), part)
+        e.u.hi - floor_div(drop_low(&law.drag, e.q.lo), part)
     }
 }
 
@@ -51,13 +53,13 @@ fn loses_bound(
     high_loss: i64,
     rule: Rule,
     scale: i128,
-    e: ArcSides,
+    e: ArcEnds,
     from: bool,
     low: bool,
 ) -> i128
-    requires within { IsFormWithin (loses low_loss high_loss) }
+    requires within { IsFormWithin (Loses low_loss high_loss) }
     requires ends { AreBoxSides scale e }
-    ensures { BoundsSquare (loses low_loss high_loss) scale (ends_of_sides e) from low rule result }
+    ensures { BoundsSquare (Loses low_loss high_loss) scale e from low rule result }
 {
     let other = opposite(e, from, low);
     match rule {
@@ -82,11 +84,11 @@ fn inner_bound(in_min: i64, out_max: i64, scale: i128, from: bool) -> i128
 }
 
 // By a control valve: the pressure before it is at least `red_min` Pa above the one after it, and within `red_max` Pa.
-fn fall_bound(red_min: i64, red_max: i64, scale: i128, e: ArcSides, from: bool, low: bool) -> i128
+fn fall_bound(red_min: i64, red_max: i64, scale: i128, e: ArcEnds, from: bool, low: bool) -> i128
     requires red_min { IsTrue (is_difference red_min) }
     requires red_max { IsTrue (is_difference red_max) }
     requires ends { AreBoxSides scale e }
-    ensures { (in_min out_max : ℤ) → BoundsSquare (reduces in_min out_max red_min red_max) scale (ends_of_sides e) from low Fall result }
+    ensures { (in_min out_max : ℤ) → BoundsSquare (Reduces in_min out_max red_min red_max) scale e from low Fall result }
 {
     let other = opposite(e, from, low);
     if from == low {
@@ -103,13 +105,13 @@ fn reduces_bound(
     red_max: i64,
     rule: Rule,
     scale: i128,
-    e: ArcSides,
+    e: ArcEnds,
     from: bool,
     low: bool,
 ) -> i128
-    requires within { IsFormWithin (reduces in_min out_max red_min red_max) }
+    requires within { IsFormWithin (Reduces in_min out_max red_min red_max) }
     requires ends { AreBoxSides scale e }
-    ensures { BoundsSquare (reduces in_min out_max red_min red_max) scale (ends_of_sides e) from low rule result }
+    ensures { BoundsSquare (Reduces in_min out_max red_min red_max) scale e from low rule result }
 {
     match rule {
         Rule::Fall => fall_bound(red_min, red_max, scale, e, from, low),
@@ -140,13 +142,13 @@ fn raises_bound(
     rise_max: i64,
     rule: Rule,
     scale: i128,
-    e: ArcSides,
+    e: ArcEnds,
     from: bool,
     low: bool,
 ) -> i128
-    requires within { IsFormWithin (raises in_min out_max num den rise_max) }
+    requires within { IsFormWithin (Raises in_min out_max num den rise_max) }
     requires ends { AreBoxSides scale e }
-    ensures { BoundsSquare (raises in_min out_max num den rise_max) scale (ends_of_sides e) from low rule result }
+    ensures { BoundsSquare (Raises in_min out_max num den rise_max) scale e from low rule result }
 {
     let other = opposite(e, from, low);
     match rule {
@@ -159,22 +161,24 @@ fn raises_bound(
 
 /// Up to where a rule lets an end of a square go, where it moves it.
 pub fn square_bound(
-    form: &Form,
+    form: &LawForm,
     rule: Rule,
     scale: i128,
-    e: ArcSides,
+    e: ArcEnds,
     from: bool,
     low: bool,
 ) -> i128
-    requires within { IsFormWithin (law_of_form form.now) }
+    requires within { IsFormWithin form.now }
     requires ends { AreBoxSides scale e }
-    ensures { BoundsSquare (law_of_form form.now) scale (ends_of_sides e) from low rule result }
+    ensures { BoundsSquare form.now scale e from low rule result }
 {
     match form {
-        Form::Drags(law) => drag_bound(law, scale, e, from, low),
-        Form::Equals => opposite(e, from, low),
-        Form::Loses { low: least, high } => loses_bound(*least, *high, rule, scale, e, from, low),
-        Form::Reduces {
+        LawForm::Drags(law) => drag_bound(law, scale, e, from, low),
+        LawForm::Equals => opposite(e, from, low),
+        LawForm::Loses { low: least, high } => loses_bound(
+            *least, *high, rule, scale, e, from, low,
+        ),
+        LawForm::Reduces {
             in_min,
             out_max,
             red_min,
@@ -182,7 +186,7 @@ pub fn square_bound(
         } => reduces_bound(
             *in_min, *out_max, *red_min, *red_max, rule, scale, e, from, low,
         ),
-        Form::Raises {
+        LawForm::Raises {
             in_min,
             out_max,
             ratio_num,
@@ -191,7 +195,7 @@ pub fn square_bound(
         } => raises_bound(
             *in_min, *out_max, *ratio_num, *ratio_den, *rise_max, rule, scale, e, from, low,
         ),
-        Form::Shuts => 0,
-        Form::Never => 0,
+        LawForm::Shuts => 0,
+        LawForm::Never => 0,
     }
 }

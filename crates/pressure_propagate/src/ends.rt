@@ -1,14 +1,15 @@
 // The first rule that moves an end of a square.
 ghost use Rattle.std.specs.Prelude.{◌≡◌, MatchOption};
-ghost use Rattle.box_rules.specs.ArcSides.{ends_of_sides, law_of_form, var_of_side, IsFormWithin, AreBoxSides};
+ghost use Rattle.box_rules.specs.ArcLimits.{IsFormWithin, AreBoxSides};
 ghost use Rattle.tight_steps.specs.Best.{Best};
 ghost use Rattle.tight_steps.specs.Moves.{allows, ends_at};
 ghost use Rattle.pressure_propagate.specs.SquareRules.{square_rules, square_at, HasNoRule, IsFirstRule, HasNoRuleEnd, IsFirstRuleEnd};
 
 use crate::bounds::square_bound;
-use box_rules::{ArcSide, ArcSides, Form};
+use gas_model::LawForm;
 use tight_steps::{cut, own_ends, shrinks_by};
 use tree_cert::Rule;
+use tree_rules::{ArcEnds, ArcVar};
 
 /// A rule, and the value that it gives.
 #[derive(Clone, Copy, Debug, PartialEq, Eq)]
@@ -26,38 +27,38 @@ pub struct RuleEnd {
 }
 
 // The rules by which a law moves squares, in order.
-fn square_rules(form: &Form) -> &'static [Rule]
-    ensures { result.now ≡ square_rules (law_of_form form.now) }
+fn square_rules(form: &LawForm) -> &'static [Rule]
+    ensures { result.now ≡ square_rules form.now }
 {
     match form {
-        Form::Drags(_) => &[Rule::Pipe],
-        Form::Equals => &[Rule::Equal],
-        Form::Loses { .. } => &[Rule::Reach, Rule::Along, Rule::Drop],
-        Form::Reduces { .. } => &[Rule::Inner, Rule::Fall],
-        Form::Raises { .. } => &[Rule::Inner, Rule::Order, Rule::Rise, Rule::Ratio],
-        Form::Shuts | Form::Never => &[],
+        LawForm::Drags(_) => &[Rule::Pipe],
+        LawForm::Equals => &[Rule::Equal],
+        LawForm::Loses { .. } => &[Rule::Reach, Rule::Along, Rule::Drop],
+        LawForm::Reduces { .. } => &[Rule::Inner, Rule::Fall],
+        LawForm::Raises { .. } => &[Rule::Inner, Rule::Order, Rule::Rise, Rule::Ratio],
+        LawForm::Shuts | LawForm::Never => &[],
     }
 }
 
 // The square at the `from` of an arc, or at its `to`.
-fn side_of(from: bool) -> ArcSide
-    ensures { var_of_side result ≡ square_at from }
+fn side_of(from: bool) -> ArcVar
+    ensures { result ≡ square_at from }
 {
-    if from { ArcSide::From } else { ArcSide::To }
+    if from { ArcVar::OfFrom } else { ArcVar::OfTo }
 }
 
 // The tightest value of an end of a square by a rule, where it shrinks the width by an eighth.
 fn best_value(
-    form: &Form,
+    form: &LawForm,
     rule: Rule,
     scale: i128,
-    e: ArcSides,
+    e: ArcEnds,
     from: bool,
     low: bool,
 ) -> Option<i128>
-    requires within { IsFormWithin (law_of_form form.now) }
+    requires within { IsFormWithin form.now }
     requires ends { AreBoxSides scale e }
-    ensures { Best low (ends_at (ends_of_sides e) (square_at from)) (allows rule (law_of_form form.now) scale (ends_of_sides e) (square_at from) low) result }
+    ensures { Best low (ends_at e (square_at from)) (allows rule form.now scale e (square_at from) low) result }
 {
     let side = side_of(from);
     if !shrinks_by(form, rule, scale, e, side, low) {
@@ -71,12 +72,12 @@ fn best_value(
 }
 
 // The first rule that moves an end of a square by an eighth of its width, with its tightest value.
-fn first_rule(form: &Form, scale: i128, e: ArcSides, from: bool, low: bool) -> Option<RuleValue>
-    requires within { IsFormWithin (law_of_form form.now) }
+fn first_rule(form: &LawForm, scale: i128, e: ArcEnds, from: bool, low: bool) -> Option<RuleValue>
+    requires within { IsFormWithin form.now }
     requires ends { AreBoxSides scale e }
     ensures { MatchOption result
-        (HasNoRule (law_of_form form.now) scale (ends_of_sides e) (square_at from) low)
-        (IsFirstRule (law_of_form form.now) scale (ends_of_sides e) (square_at from) low) }
+        (HasNoRule form.now scale e (square_at from) low)
+        (IsFirstRule form.now scale e (square_at from) low) }
 {
     for rule in square_rules(form) {
         let rule = *rule;
@@ -89,12 +90,12 @@ fn first_rule(form: &Form, scale: i128, e: ArcSides, from: bool, low: bool) -> O
 
 /// The first end of a square that a rule moves by an eighth of its width, the lower one before the upper one, with the
 /// tightest value of the first such rule.
-pub fn first_end(form: &Form, scale: i128, e: ArcSides, from: bool) -> Option<RuleEnd>
-    requires within { IsFormWithin (law_of_form form.now) }
+pub fn first_end(form: &LawForm, scale: i128, e: ArcEnds, from: bool) -> Option<RuleEnd>
+    requires within { IsFormWithin form.now }
     requires ends { AreBoxSides scale e }
     ensures { MatchOption result
-        (HasNoRuleEnd (law_of_form form.now) scale (ends_of_sides e) (square_at from))
-        (IsFirstRuleEnd (law_of_form form.now) scale (ends_of_sides e) (square_at from)) }
+        (HasNoRuleEnd form.now scale e (square_at from))
+        (IsFirstRuleEnd form.now scale e (square_at from)) }
 {
     if let Some(found) = first_rule(form, scale, e, from, true) {
         return Some(RuleEnd {

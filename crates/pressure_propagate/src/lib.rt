@@ -7,9 +7,6 @@ mod bounds;
 mod closings;
 mod ends;
 mod propagate;
-mod roots;
+mod root_bounds;
 
-pub use propagate::{best_square, shut_square};
-
-#[cfg(test)]
-mod tests;
+pub use propagate::{best_square, best_square_by_law, shut_square, shut_square_by_law};

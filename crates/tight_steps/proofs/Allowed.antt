@@ -6,25 +6,27 @@ use Rattle.integer_laws.proofs.Ring.{linear}
 use Rattle.integer_laws.proofs.SizeLemmas.{within_parts, one_part}
 use Rattle.gas_model.specs.declared.rows.Drag.{Drag}
 use Rattle.gas_model.specs.declared.rows.Ends.{Ends}
-use Rattle.gas_model.specs.declared.rows.Var.TheVariants.{Flow, Square}
+use Rattle.base_types.specs.declared.variables.Var.TheVariants.{Flow, Square}
 use Rattle.gas_model.specs.BoxLimits.{IsScale, AreFlowEnds, AreSquareEnds}
 use Rattle.gas_model.specs.Boxes.{may_become, with_end}
-use Rattle.gas_model.specs.Laws.{LawForm, drags, equals, shuts, loses, reduces, raises, never}
-use Rattle.gas_model.specs.Limits.{is_drag_within, is_ratio_part}
+use Rattle.gas_model.specs.declared.law_forms.LawForm.{LawForm}
+use Rattle.gas_model.specs.declared.law_forms.LawForm.TheVariants.{Drags, Equals, Shuts, Loses, Reduces, Raises, Never}
+use Rattle.gas_model.specs.Limits.{is_drag_within}
+use Rattle.base_types.specs.Numbers.{is_ratio_part}
 use Rattle.box_ends.proofs.HeldEnds.{end_moved}
 use Rattle.element_laws.specs.Sizes.{AreSafeFlows}
 use Rattle.element_laws.proofs.BoxEnds.{safe_flows, safe_squares}
 use Rattle.tree_cert.specs.declared.line.Rule.{Rule}
 use Rattle.tree_cert.specs.declared.line.Rule.TheVariants.{Fall, Rise, Reach, Drop}
-use Rattle.tree_rules.specs.ArcRules.{ArcEnds, ArcVar, OfFlow, OfFrom, OfTo, arc_step, keeps_sign}
+use Rattle.tree_rules.specs.declared.arc_vars.ArcEnds.{ArcEnds}
+use Rattle.tree_rules.specs.declared.arc_vars.ArcVar.{ArcVar}
+use Rattle.tree_rules.specs.declared.arc_vars.ArcVar.TheVariants.{OfFlow, OfFrom, OfTo}
+use Rattle.tree_rules.specs.ArcRules.{arc_step, keeps_sign}
 use Rattle.tree_rules.specs.Looser.{IsNoTighter}
 use Rattle.tree_rules.proofs.Loosening.{arc_looser}
 use Rattle.tree_rules.proofs.UnitSound.{IsForm, IsDrag}
-use Rattle.box_rules.specs.declared.arc_rules.ArcSides.{ArcSides}
-use Rattle.box_rules.specs.declared.arc_rules.ArcSide.{ArcSide}
-use Rattle.box_rules.specs.declared.arc_rules.ArcSide.TheVariants as side
-use Rattle.box_rules.specs.ArcSides.{ends_of_sides, var_of_side, IsFormWithin, AreSafeSides, AreBoxSides, IsSafeAt}
-use Rattle.tight_steps.specs.Best.{IsLoosest, HasNoBest, CanShrink, AreSmall}
+use Rattle.box_rules.specs.ArcLimits.{IsFormWithin, AreSafeSides, AreBoxSides, IsSafeAt}
+use Rattle.tight_steps.specs.Best.{IsLoosest, HasNoBest, CanShrink, AreSmallEnds}
 use Rattle.tight_steps.specs.Moves.{allows, ends_at}
 use Rattle.tight_steps.proofs.Bests.{within_low, none_from}
 
@@ -36,13 +38,13 @@ part_from : (x : ℤ) → IsTrue (is_ratio_part x) → pos 1 ≤ℤ x
 part_from x t = grind (arith, linear)
 
 pub form_is : (form : LawForm) → IsFormWithin form → IsForm form
-form_is (drags law) t = drag_is law t
-form_is (raises a b num den r) t = record { upper = part_from num t.1.0; lower = part_from den t.1.1 }
-form_is equals t = tt
-form_is shuts t = tt
-form_is (loses l h) t = tt
-form_is (reduces a b l h) t = tt
-form_is never t = tt
+form_is (Drags law) t = drag_is law.drag t
+form_is (Raises a b num den r) t = record { upper = part_from num t.1.0; lower = part_from den t.1.1 }
+form_is Equals t = tt
+form_is Shuts t = tt
+form_is (Loses l h) t = tt
+form_is (Reduces a b l h) t = tt
+form_is Never t = tt
 
 pub scale_one : (K : ℤ) → IsScale K → pos 1 ≤ℤ K
 scale_one K (inl e) = omega (arith, linear)
@@ -65,10 +67,10 @@ above_sign rule B D h t = refl
 
 -- no rule that keeps a sign gives a flow
 flow_sign : (rule : Rule) (form : LawForm) (K : ℤ) (e : ArcEnds) (low : Bool) (D B : ℤ) → IsTrue (arc_step rule form K e OfFlow low D) → IsTrue (keeps_sign rule B)
-flow_sign Fall (reduces a b m M) K e low D B t = absurd cc
-flow_sign Rise (raises a b n d M) K e low D B t = absurd cc
-flow_sign Reach (loses m M) K e low D B t = absurd cc
-flow_sign Drop (loses m M) K e low D B t = absurd cc
+flow_sign Fall (Reduces a b m M) K e low D B t = absurd cc
+flow_sign Rise (Raises a b n d M) K e low D B t = absurd cc
+flow_sign Reach (Loses m M) K e low D B t = absurd cc
+flow_sign Drop (Loses m M) K e low D B t = absurd cc
 flow_sign Fall form K e low D B t = absurd cc
 flow_sign Rise form K e low D B t = absurd cc
 flow_sign Reach form K e low D B t = absurd cc
@@ -105,10 +107,10 @@ decided true low e test C s l looser = record { value = C; loosest = l; allowed 
 decided false low e test C s l looser = none_from low e test C l (λ h. let x : false ≡ true = s ∙ h in absurd cc) looser
 
 -- ---- sizes
-pub safe_sides : (K : ℤ) (e : ArcSides) → AreBoxSides K e → AreSafeSides e
+pub safe_sides : (K : ℤ) (e : ArcEnds) → AreBoxSides K e → AreSafeSides e
 safe_sides K e h = record { q = safe_flows K e.q h.scale h.q; u = safe_squares K e.u h.scale h.u; v = safe_squares K e.v h.scale h.v }
 
-pub limited_sides : (K : ℤ) (e : ArcSides) → AreBoxSides K e → AreLimitedEnds K (ends_of_sides e)
+pub limited_sides : (K : ℤ) (e : ArcEnds) → AreBoxSides K e → AreLimitedEnds K e
 limited_sides K e h = record { q = h.q; u = h.u; v = h.v }
 
 flow_moved : (K : ℤ) (e : Ends) (low : Bool) (C : ℤ) → AreFlowEnds K e → IsTrue (may_become low C e) → AreFlowEnds K (with_end low C e)
@@ -117,28 +119,28 @@ flow_moved K e low C l t = end_moved K (Flow 0) low C e l t
 square_moved : (K : ℤ) (e : Ends) (low : Bool) (C : ℤ) → AreSquareEnds K e → IsTrue (may_become low C e) → AreSquareEnds K (with_end low C e)
 square_moved K e low C l t = end_moved K (Square 0) low C e l t
 
-pub safe_value : (K : ℤ) (e : ArcSides) (x : ArcSide) (low : Bool) (C : ℤ) → AreBoxSides K e → IsTrue (may_become low C (ends_at (ends_of_sides e) (var_of_side x))) → IsSafeAt x C
-safe_value K e side.Flow true C h t = (safe_flows K (with_end true C e.q) h.scale (flow_moved K e.q true C h.q t)).lo
-safe_value K e side.Flow false C h t = (safe_flows K (with_end false C e.q) h.scale (flow_moved K e.q false C h.q t)).hi
-safe_value K e side.From true C h t = (safe_squares K (with_end true C e.u) h.scale (square_moved K e.u true C h.u t)).lo
-safe_value K e side.From false C h t = (safe_squares K (with_end false C e.u) h.scale (square_moved K e.u false C h.u t)).hi
-safe_value K e side.To true C h t = (safe_squares K (with_end true C e.v) h.scale (square_moved K e.v true C h.v t)).lo
-safe_value K e side.To false C h t = (safe_squares K (with_end false C e.v) h.scale (square_moved K e.v false C h.v t)).hi
+pub safe_value : (K : ℤ) (e : ArcEnds) (x : ArcVar) (low : Bool) (C : ℤ) → AreBoxSides K e → IsTrue (may_become low C (ends_at e x)) → IsSafeAt x C
+safe_value K e OfFlow true C h t = (safe_flows K (with_end true C e.q) h.scale (flow_moved K e.q true C h.q t)).lo
+safe_value K e OfFlow false C h t = (safe_flows K (with_end false C e.q) h.scale (flow_moved K e.q false C h.q t)).hi
+safe_value K e OfFrom true C h t = (safe_squares K (with_end true C e.u) h.scale (square_moved K e.u true C h.u t)).lo
+safe_value K e OfFrom false C h t = (safe_squares K (with_end false C e.u) h.scale (square_moved K e.u false C h.u t)).hi
+safe_value K e OfTo true C h t = (safe_squares K (with_end true C e.v) h.scale (square_moved K e.v true C h.v t)).lo
+safe_value K e OfTo false C h t = (safe_squares K (with_end false C e.v) h.scale (square_moved K e.v false C h.v t)).hi
 
-flows_small : (e : Ends) → AreSafeFlows e → AreSmall e
+flows_small : (e : Ends) → AreSafeFlows e → AreSmallEnds e
 flows_small e h = record { lo = omega (arith, h.lo); hi = omega (arith, h.hi) }
 
 most_square : (K : ℤ) → IsScale K → (K *ℤ pos (10 ^ 16)) ≤ℤ pos (2 ^ 59)
 most_square K (inl k) = let e : K *ℤ pos (10 ^ 16) ≡ pos 1 *ℤ pos (10 ^ 16) = ap (λ (z : ℤ). z *ℤ pos (10 ^ 16)) k in omega (arith, linear, e)
 most_square K (inr k) = let e : K *ℤ pos (10 ^ 16) ≡ pos 16 *ℤ pos (10 ^ 16) = ap (λ (z : ℤ). z *ℤ pos (10 ^ 16)) k in omega (arith, linear, e)
 
-squares_small : (K : ℤ) (e : Ends) → IsScale K → AreSquareEnds K e → AreSmall e
+squares_small : (K : ℤ) (e : Ends) → IsScale K → AreSquareEnds K e → AreSmallEnds e
 squares_small K e k h = record {
   lo = omega (arith, linear, most_square K k, h.low_from, h.low_to, within_parts, one_part e.lo);
   hi = omega (arith, linear, most_square K k, h.high_from, h.high_to, within_parts, one_part e.hi);
 }
 
-pub own_small : (K : ℤ) (e : ArcSides) (x : ArcSide) → AreBoxSides K e → AreSmall (ends_at (ends_of_sides e) (var_of_side x))
-own_small K e side.Flow h = flows_small e.q (safe_flows K e.q h.scale h.q)
-own_small K e side.From h = squares_small K e.u h.scale h.u
-own_small K e side.To h = squares_small K e.v h.scale h.v
+pub own_small : (K : ℤ) (e : ArcEnds) (x : ArcVar) → AreBoxSides K e → AreSmallEnds (ends_at e x)
+own_small K e OfFlow h = flows_small e.q (safe_flows K e.q h.scale h.q)
+own_small K e OfFrom h = squares_small K e.u h.scale h.u
+own_small K e OfTo h = squares_small K e.v h.scale h.v

@@ -6,15 +6,18 @@ use Rattle.std.proofs.lemmas.Bool.{and_parts, and_from}
 use borrow.Author.Tests.{eqb-true}
 use Rattle.gas_model.specs.declared.rows.ArcRow.{ArcRow}
 use Rattle.gas_model.specs.declared.rows.Ends.{Ends}
-use Rattle.gas_model.specs.declared.rows.Var.{Var}
-use Rattle.gas_model.specs.declared.rows.Var.TheVariants.{Flow, Square}
+use Rattle.base_types.specs.declared.variables.Var.{Var}
+use Rattle.base_types.specs.declared.variables.Var.TheVariants.{Flow, Square}
 use Rattle.gas_model.specs.Rows.{Network}
 use Rattle.gas_model.specs.Boxes.{Bounds, ends_of, is_var, may_become}
-use Rattle.gas_model.specs.Laws.{LawForm}
+use Rattle.gas_model.specs.declared.law_forms.LawForm.{LawForm}
 use Rattle.tree_cert.specs.declared.line.Rule.{Rule}
 use Rattle.tree_cert.specs.declared.line.Rule.TheVariants.{Balance, Pipe, Equal, Zero, Way, Inner, Fall, Order, Rise, Ratio, Sign, Reach, Along, Drop}
 use Rattle.tree_cert.specs.declared.line.Step.{Step}
-use Rattle.tree_rules.specs.ArcRules.{ArcEnds, ArcVar, OfFlow, OfFrom, OfTo, arc_step, keeps_sign}
+use Rattle.tree_rules.specs.declared.arc_vars.ArcEnds.{ArcEnds}
+use Rattle.tree_rules.specs.declared.arc_vars.ArcVar.{ArcVar}
+use Rattle.tree_rules.specs.declared.arc_vars.ArcVar.TheVariants.{OfFlow, OfFrom, OfTo}
+use Rattle.tree_rules.specs.ArcRules.{arc_step, keeps_sign}
 use Rattle.tree_rules.specs.Looser.{IsTightest, with_value}
 use Rattle.tree_rules.specs.Rules.{PartBox, arc_ends, arc_var, fixed_form, form_step, row_step, law_step, rule_holds, is_allowed, step_holds}
 use Rattle.tree_rules.proofs.StepSound.{some_is}

@@ -8,7 +8,8 @@ use Rattle.integer_laws.proofs.SizeLemmas.{within_fits, within_parts, one_part}
 use Rattle.gas_model.specs.declared.rows.Ends.{Ends}
 use Rattle.gas_model.specs.Boxes.{width_of, may_become}
 use Rattle.tree_rules.specs.Looser.{IsNoTighter}
-use Rattle.tight_steps.specs.Best.{gain, shrinks, reaches, cut, IsLoosest, IsBest, HasNoBest, IsBound, CanShrink, AreSmall}
+use Rattle.tight_steps.specs.Best.{gain, shrinks, cut, IsLoosest, IsBest, HasNoBest, IsBound, CanShrink, AreSmallEnds}
+use Rattle.tree_rules.specs.Looser.{reaches}
 
 eight_is : (z : ℤ) → pos 8 *ℤ z ≡ (z +ℤ z +ℤ z +ℤ z) +ℤ (z +ℤ z +ℤ z +ℤ z)
 eight_is z = omega (arith, ints)
@@ -135,7 +136,7 @@ pub record EndsFit (e : Ends) : Type 0 where
   pub below : FitsSigned w128 (e.lo -ℤ pos 1)
   pub width : FitsSigned w128 (e.hi -ℤ e.lo)
 
-pub ends_fit : (e : Ends) → AreSmall e → EndsFit e
+pub ends_fit : (e : Ends) → AreSmallEnds e → EndsFit e
 ends_fit e h = record {
   lo = within_fits (2 ^ 60) e.lo h.lo (lit≤ tt);
   hi = within_fits (2 ^ 60) e.hi h.hi (lit≤ tt);
@@ -149,7 +150,7 @@ pub record GainFits (e : Ends) (g : ℤ) : Type 0 where
   pub up_by : FitsSigned w128 (e.lo +ℤ g)
   pub down_by : FitsSigned w128 (e.hi -ℤ g)
 
-pub gain_fits : (e : Ends) (g : ℤ) → AreSmall e → pos 1 ≤ℤ g → g ≤ℤ pos (2 ^ 64) → GainFits e g
+pub gain_fits : (e : Ends) (g : ℤ) → AreSmallEnds e → pos 1 ≤ℤ g → g ≤ℤ pos (2 ^ 64) → GainFits e g
 gain_fits e g h one most = record {
   up_by = within_fits (2 ^ 65) (e.lo +ℤ g) (omega (arith, linear, h.lo, one, most, within_parts, one_part (e.lo +ℤ g))) (lit≤ tt);
   down_by = within_fits (2 ^ 65) (e.hi -ℤ g) (omega (arith, linear, h.hi, one, most, within_parts, one_part (e.hi -ℤ g))) (lit≤ tt);

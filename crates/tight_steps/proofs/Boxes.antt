@@ -1,7 +1,7 @@
 -- A box after a step: it still has all ends, and they keep their limits.
 use Rattle.std.proofs.Common.{◌≡◌, ◌∙◌}
 use Rattle.std.proofs.lemmas.List.{length-set}
-use Rattle.gas_model.specs.declared.rows.Var.TheVariants.{Flow, Square}
+use Rattle.base_types.specs.declared.variables.Var.TheVariants.{Flow, Square}
 use Rattle.gas_model.specs.Boxes.{ends_of, with_end}
 use Rattle.box_ends.proofs.HeldEnds.{end_moved}
 use Rattle.tight_steps.specs.Frame.{BoxesStillFit, EndsStayLimited}

@@ -6,15 +6,19 @@ use Rattle.std.proofs.lemmas.List.{get_or-set_other}
 use Rattle.std.proofs.lemmas.Bool.{and_parts, and_from}
 use Rattle.gas_model.specs.declared.rows.ArcRow.{ArcRow}
 use Rattle.gas_model.specs.declared.rows.Ends.{Ends}
-use Rattle.gas_model.specs.declared.rows.Var.{Var}
-use Rattle.gas_model.specs.declared.rows.Var.TheVariants.{Flow, Square}
+use Rattle.base_types.specs.declared.variables.Var.{Var}
+use Rattle.base_types.specs.declared.variables.Var.TheVariants.{Flow, Square}
 use Rattle.gas_model.specs.Rows.{Network}
 use Rattle.gas_model.specs.Boxes.{Bounds, ends_of, no_ends, is_var, may_become, tightened, with_end}
-use Rattle.gas_model.specs.Laws.{LawForm, drags, equals, shuts, loses, reduces, raises, never}
+use Rattle.gas_model.specs.declared.law_forms.LawForm.{LawForm}
+use Rattle.gas_model.specs.declared.law_forms.LawForm.TheVariants.{Drags, Equals, Shuts, Loses, Reduces, Raises, Never}
 use Rattle.tree_cert.specs.declared.line.Rule.{Rule}
 use Rattle.tree_cert.specs.declared.line.Rule.TheVariants.{Balance, Pipe, Equal, Zero, Way, Inner, Fall, Order, Rise, Ratio, Sign, Reach, Along, Drop}
 use Rattle.tree_cert.specs.declared.line.Step.{Step}
-use Rattle.tree_rules.specs.ArcRules.{ArcEnds, ArcVar, OfFlow, OfFrom, OfTo, arc_step, arc_closing, keeps_sign}
+use Rattle.tree_rules.specs.declared.arc_vars.ArcEnds.{ArcEnds}
+use Rattle.tree_rules.specs.declared.arc_vars.ArcVar.{ArcVar}
+use Rattle.tree_rules.specs.declared.arc_vars.ArcVar.TheVariants.{OfFlow, OfFrom, OfTo}
+use Rattle.tree_rules.specs.ArcRules.{arc_step, arc_closing, keeps_sign}
 use Rattle.tree_rules.specs.Rules.{PartBox, arc_ends, arc_var, fixed_form, form_step, row_step, law_step, rule_holds, row_closing, closing_at}
 use Rattle.tree_rules.proofs.StepSound.{some_is}
 use Rattle.tree_rules.proofs.Loosening.{some_from}
@@ -22,7 +26,7 @@ use Rattle.box_rules.proofs.OtherRules.{equals_closing_else, shuts_closing_else,
 use Rattle.tight_steps.specs.declared.law.Law.TheVariants.{AtArc}
 use Rattle.tight_steps.specs.Best.{shrinks}
 use Rattle.tight_steps.specs.Moves.{is_balance, is_of_law, ends_at, IsMove}
-use Rattle.tight_steps.specs.Mentions.{form_mentions, row_mentions, mentions}
+use Rattle.tight_steps.specs.Mentions.{form_mentions, arc_mentions, mentions}
 use Rattle.tight_steps.specs.Frame.{with_value}
 use Rattle.tight_steps.proofs.ArcMoves.{step_parts, step_from, rule_at_arc, own_is, ArcMove, HasForm, law_from, arc_move, place_is}
 
@@ -35,13 +39,13 @@ same_ends b (Square i) (Square m) low C n = get_or-set_other b.squares m i (with
 
 -- ---- which variables of an arc are mentioned
 pub squares_alike : (form : LawForm) → form_mentions form OfFrom ≡ form_mentions form OfTo
-squares_alike (drags law) = refl
-squares_alike equals = refl
-squares_alike shuts = refl
-squares_alike (loses l h) = refl
-squares_alike (reduces a b l h) = refl
-squares_alike (raises a b n d r) = refl
-squares_alike never = refl
+squares_alike (Drags law) = refl
+squares_alike Equals = refl
+squares_alike Shuts = refl
+squares_alike (Loses l h) = refl
+squares_alike (Reduces a b l h) = refl
+squares_alike (Raises a b n d r) = refl
+squares_alike Never = refl
 
 -- the variable of a row is one of the arc, and the law says of it what it says of that
 pub record Found (a : ℕ) (row : ArcRow) (form : LawForm) (v : Var) (y : ArcVar) : Type 0 where
@@ -84,7 +88,7 @@ ends_eq E F p q r =
     let h : Ends → ArcEnds = λ (z : Ends). record { q = F.q; u = F.u; v = z } in
     ap f p ∙ ap g q ∙ ap h r
 
-equals_q : (rule : Rule) (K : ℤ) (E : ArcEnds) (q : Ends) (x : ArcVar) (low : Bool) (C : ℤ) → arc_step rule equals K E x low C ≡ arc_step rule equals K (record { q = q; u = E.u; v = E.v }) x low C
+equals_q : (rule : Rule) (K : ℤ) (E : ArcEnds) (q : Ends) (x : ArcVar) (low : Bool) (C : ℤ) → arc_step rule Equals K E x low C ≡ arc_step rule Equals K (record { q = q; u = E.u; v = E.v }) x low C
 equals_q Equal K E q OfFlow low C = refl
 equals_q Equal K E q OfFrom true C = refl
 equals_q Equal K E q OfFrom false C = refl
@@ -92,7 +96,7 @@ equals_q Equal K E q OfTo true C = refl
 equals_q Equal K E q OfTo false C = refl
 equals_q rule K E q x low C = refl
 
-shuts_any : (rule : Rule) (K : ℤ) (E F : ArcEnds) (x : ArcVar) (low : Bool) (C : ℤ) → arc_step rule shuts K E x low C ≡ arc_step rule shuts K F x low C
+shuts_any : (rule : Rule) (K : ℤ) (E F : ArcEnds) (x : ArcVar) (low : Bool) (C : ℤ) → arc_step rule Shuts K E x low C ≡ arc_step rule Shuts K F x low C
 shuts_any Zero K E F x low C = refl
 shuts_any rule K E F x low C = refl
 
@@ -103,50 +107,50 @@ all_agree : (form : LawForm) (E F : ArcEnds) → Agreed form E F → form_mentio
 all_agree form E F h p q r = ends_eq E F (h OfFlow p) (h OfFrom q) (h OfTo r)
 
 step_agrees : (rule : Rule) (form : LawForm) (K : ℤ) (E F : ArcEnds) (x : ArcVar) (low : Bool) (C : ℤ) → Agreed form E F → arc_step rule form K E x low C ≡ arc_step rule form K F x low C
-step_agrees rule (drags law) K E F x low C h = ap (λ (e : ArcEnds). arc_step rule (drags law) K e x low C) (all_agree (drags law) E F h refl refl refl)
-step_agrees rule (loses l m) K E F x low C h = ap (λ (e : ArcEnds). arc_step rule (loses l m) K e x low C) (all_agree (loses l m) E F h refl refl refl)
-step_agrees rule (reduces a b l m) K E F x low C h = ap (λ (e : ArcEnds). arc_step rule (reduces a b l m) K e x low C) (all_agree (reduces a b l m) E F h refl refl refl)
-step_agrees rule (raises a b n d r) K E F x low C h = ap (λ (e : ArcEnds). arc_step rule (raises a b n d r) K e x low C) (all_agree (raises a b n d r) E F h refl refl refl)
-step_agrees rule equals K E F x low C h =
-    equals_q rule K E F.q x low C ∙ ap (λ (e : ArcEnds). arc_step rule equals K e x low C) (ends_eq (record { q = F.q; u = E.u; v = E.v }) F refl (h OfFrom refl) (h OfTo refl))
-step_agrees rule shuts K E F x low C h = shuts_any rule K E F x low C
-step_agrees rule never K E F x low C h = never_step_else rule K E x low C ∙ sym (never_step_else rule K F x low C)
+step_agrees rule (Drags law) K E F x low C h = ap (λ (e : ArcEnds). arc_step rule (Drags law) K e x low C) (all_agree (Drags law) E F h refl refl refl)
+step_agrees rule (Loses l m) K E F x low C h = ap (λ (e : ArcEnds). arc_step rule (Loses l m) K e x low C) (all_agree (Loses l m) E F h refl refl refl)
+step_agrees rule (Reduces a b l m) K E F x low C h = ap (λ (e : ArcEnds). arc_step rule (Reduces a b l m) K e x low C) (all_agree (Reduces a b l m) E F h refl refl refl)
+step_agrees rule (Raises a b n d r) K E F x low C h = ap (λ (e : ArcEnds). arc_step rule (Raises a b n d r) K e x low C) (all_agree (Raises a b n d r) E F h refl refl refl)
+step_agrees rule Equals K E F x low C h =
+    equals_q rule K E F.q x low C ∙ ap (λ (e : ArcEnds). arc_step rule Equals K e x low C) (ends_eq (record { q = F.q; u = E.u; v = E.v }) F refl (h OfFrom refl) (h OfTo refl))
+step_agrees rule Shuts K E F x low C h = shuts_any rule K E F x low C
+step_agrees rule Never K E F x low C h = never_step_else rule K E x low C ∙ sym (never_step_else rule K F x low C)
 
 closing_agrees : (rule : Rule) (form : LawForm) (K : ℤ) (E F : ArcEnds) → Agreed form E F → arc_closing rule form K E ≡ arc_closing rule form K F
-closing_agrees rule (drags law) K E F h = ap (arc_closing rule (drags law) K) (all_agree (drags law) E F h refl refl refl)
-closing_agrees rule (loses l m) K E F h = ap (arc_closing rule (loses l m) K) (all_agree (loses l m) E F h refl refl refl)
-closing_agrees rule (reduces a b l m) K E F h = ap (arc_closing rule (reduces a b l m) K) (all_agree (reduces a b l m) E F h refl refl refl)
-closing_agrees rule (raises a b n d r) K E F h = ap (arc_closing rule (raises a b n d r) K) (all_agree (raises a b n d r) E F h refl refl refl)
-closing_agrees rule equals K E F h = equals_closing_else rule K E ∙ sym (equals_closing_else rule K F)
-closing_agrees rule shuts K E F h = shuts_closing_else rule K E ∙ sym (shuts_closing_else rule K F)
-closing_agrees rule never K E F h = never_closing_else rule K E ∙ sym (never_closing_else rule K F)
+closing_agrees rule (Drags law) K E F h = ap (arc_closing rule (Drags law) K) (all_agree (Drags law) E F h refl refl refl)
+closing_agrees rule (Loses l m) K E F h = ap (arc_closing rule (Loses l m) K) (all_agree (Loses l m) E F h refl refl refl)
+closing_agrees rule (Reduces a b l m) K E F h = ap (arc_closing rule (Reduces a b l m) K) (all_agree (Reduces a b l m) E F h refl refl refl)
+closing_agrees rule (Raises a b n d r) K E F h = ap (arc_closing rule (Raises a b n d r) K) (all_agree (Raises a b n d r) E F h refl refl refl)
+closing_agrees rule Equals K E F h = equals_closing_else rule K E ∙ sym (equals_closing_else rule K F)
+closing_agrees rule Shuts K E F h = shuts_closing_else rule K E ∙ sym (shuts_closing_else rule K F)
+closing_agrees rule Never K E F h = never_closing_else rule K E ∙ sym (never_closing_else rule K F)
 
 -- a step is on a variable that its law mentions
-equals_mention : (rule : Rule) (K : ℤ) (E : ArcEnds) (x : ArcVar) (low : Bool) (C : ℤ) → IsTrue (arc_step rule equals K E x low C) → form_mentions equals x ≡ true
+equals_mention : (rule : Rule) (K : ℤ) (E : ArcEnds) (x : ArcVar) (low : Bool) (C : ℤ) → IsTrue (arc_step rule Equals K E x low C) → form_mentions Equals x ≡ true
 equals_mention Equal K E OfFlow low C t = absurd cc
 equals_mention Equal K E OfFrom low C t = refl
 equals_mention Equal K E OfTo low C t = refl
 equals_mention rule K E x low C t = absurd cc
 
-shuts_mention : (rule : Rule) (K : ℤ) (E : ArcEnds) (x : ArcVar) (low : Bool) (C : ℤ) → IsTrue (arc_step rule shuts K E x low C) → form_mentions shuts x ≡ true
+shuts_mention : (rule : Rule) (K : ℤ) (E : ArcEnds) (x : ArcVar) (low : Bool) (C : ℤ) → IsTrue (arc_step rule Shuts K E x low C) → form_mentions Shuts x ≡ true
 shuts_mention Zero K E OfFlow low C t = refl
 shuts_mention Zero K E OfFrom low C t = absurd cc
 shuts_mention Zero K E OfTo low C t = absurd cc
 shuts_mention rule K E x low C t = absurd cc
 
 step_mentions : (rule : Rule) (form : LawForm) (K : ℤ) (E : ArcEnds) (x : ArcVar) (low : Bool) (C : ℤ) → IsTrue (arc_step rule form K E x low C) → form_mentions form x ≡ true
-step_mentions rule (drags law) K E x low C t = refl
-step_mentions rule (loses l m) K E x low C t = refl
-step_mentions rule (reduces a b l m) K E x low C t = refl
-step_mentions rule (raises a b n d r) K E x low C t = refl
-step_mentions rule equals K E x low C t = equals_mention rule K E x low C t
-step_mentions rule shuts K E x low C t = shuts_mention rule K E x low C t
-step_mentions rule never K E x low C t = let e : true ≡ false = sym t ∙ never_step_else rule K E x low C in absurd cc
+step_mentions rule (Drags law) K E x low C t = refl
+step_mentions rule (Loses l m) K E x low C t = refl
+step_mentions rule (Reduces a b l m) K E x low C t = refl
+step_mentions rule (Raises a b n d r) K E x low C t = refl
+step_mentions rule Equals K E x low C t = equals_mention rule K E x low C t
+step_mentions rule Shuts K E x low C t = shuts_mention rule K E x low C t
+step_mentions rule Never K E x low C t = let e : true ≡ false = sym t ∙ never_step_else rule K E x low C in absurd cc
 
 -- ---- the law of an arc
 unsaid : (p : Network) (b : PartBox) (a : ℕ) (row : ArcRow) (form : LawForm) (w : Var) → HasForm p b a row form → mentions p b.part (AtArc a) w ≡ false → option_map_or (form_mentions form) (arc_var a row w) false ≡ false
 unsaid p b a row form w h n =
-    let n1 : row_mentions p b.part a w row ≡ false = ap (λ o. option_map_or (row_mentions p b.part a w) o false) (sym h.row_is) ∙ n in
+    let n1 : arc_mentions p b.part a w row ≡ false = ap (λ o. option_map_or (arc_mentions p b.part a w) o false) (sym h.row_is) ∙ n in
     ap (λ o. option_map_or (λ f. option_map_or (form_mentions f) (arc_var a row w) false) o false) (sym h.form_is) ∙ n1
 
 pub move_from : (p : Network) (b : PartBox) (a : ℕ) (row : ArcRow) (form : LawForm) (s : Step) → HasForm p b a row form → IsTrue (is_of_law (AtArc a) s.rule s.place) → IsTrue (is_var p s.var) → ArcMove b a row form s → IsMove p b s

@@ -4,7 +4,7 @@ use Rattle.std.specs.Int.{int_min, int_max}
 use Rattle.integer_laws.specs.Sizes.{IsWithin}
 use Rattle.gas_model.specs.declared.rows.Ends.{Ends}
 use Rattle.gas_model.specs.Boxes.{width_of, may_become}
-use Rattle.tree_rules.specs.Looser.{IsNoTighter}
+use Rattle.tree_rules.specs.Looser.{IsNoTighter, reaches}
 
 -- how far the lower (`low`) or the upper end moves inward where it becomes C
 abbrev pub gain : (low : Bool) → (C : ℤ) → Ends → ℤ
@@ -42,11 +42,6 @@ pub record CanShrink (low : Bool) (e : Ends) (test : ℤ → Bool) : Type 0 wher
   pub loosest : IsLoosest low e value
   pub allowed : IsTrue (test value)
 
--- the values from the bound on that are looser
-abbrev pub reaches : (low : Bool) → (bound : ℤ) → ℤ → Bool
-reaches true bound C = int_le C bound
-reaches false bound C = int_le bound C
-
 -- of the values that an end may be given, the test allows those up to the bound
 pub record IsBound (low : Bool) (e : Ends) (test : ℤ → Bool) (bound : ℤ) : Type 0 where
   pub is : (C : ℤ) → IsTrue (may_become low C e) → IsTrue (test C) ↔ IsTrue (reaches low bound C)
@@ -57,6 +52,6 @@ cut true e bound = int_min bound (e.hi +ℤ pos 1)
 cut false e bound = int_max bound (e.lo -ℤ pos 1)
 
 -- ends of flows and squares, in sixteenths too
-pub record AreSmall (e : Ends) : Type 0 where
+pub record AreSmallEnds (e : Ends) : Type 0 where
   pub lo : IsWithin (2 ^ 60) e.lo
   pub hi : IsWithin (2 ^ 60) e.hi

@@ -1,6 +1,6 @@
 -- What a change of a variable leaves as it was.
 use Rattle.std.specs.Prelude.{◌≡◌, ℤ, Bool, false, IsTrue}
-use Rattle.gas_model.specs.declared.rows.Var.{Var}
+use Rattle.base_types.specs.declared.variables.Var.{Var}
 use Rattle.gas_model.specs.Rows.{Network}
 use Rattle.gas_model.specs.Boxes.{Bounds, BoxFits, ends_of, may_become, tightened, with_end}
 use Rattle.gas_model.specs.BoxLimits.{AreLimited}

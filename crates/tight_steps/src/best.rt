@@ -1,6 +1,7 @@
 // The tightest value of an end, where it shrinks the width by an eighth.
 ghost use Rattle.std.specs.Prelude.{◌≡◌, ◌⊎◌, ◌^◌, pos, ◌+ℤ◌, ◌*ℤ◌, ◌≤ℤ◌, ◌<ℤ◌, MatchOption};
-ghost use Rattle.tight_steps.specs.Best.{reaches, cut, IsLoosest, Best, AreSmall};
+ghost use Rattle.tight_steps.specs.Best.{cut, IsLoosest, Best, AreSmallEnds};
+ghost use Rattle.tree_rules.specs.Looser.{reaches};
 
 use gas_model::Ends;
 
@@ -28,7 +29,7 @@ fn least_gain(width: i128) -> i128
 /// the width, rounded up, and by at least one. `None` exactly where the width is negative, for then the end may not
 /// move.
 pub fn loosest(low: bool, e: Ends) -> Option<i128>
-    requires { AreSmall e }
+    requires { AreSmallEnds e }
     ensures { MatchOption result (e.hi <ℤ e.lo) (IsLoosest low e) }
 {
     let width = e.hi - e.lo;
@@ -45,7 +46,7 @@ pub fn loosest(low: bool, e: Ends) -> Option<i128>
 
 /// The bound of an end, or one past the other end where that comes first.
 pub fn cut(low: bool, e: Ends, bound: i128) -> i128
-    requires { AreSmall e }
+    requires { AreSmallEnds e }
     ensures { result ≡ cut low e bound }
 {
     if low {
@@ -64,7 +65,7 @@ fn reaches(low: bool, bound: i128, value: i128) -> bool
 
 /// The tightest value of an end up to a bound, where it shrinks the width by an eighth.
 pub fn best_to(low: bool, e: Ends, bound: i128) -> Option<i128>
-    requires { AreSmall e }
+    requires { AreSmallEnds e }
     ensures { Best low e (reaches low bound) result }
 {
     let value = loosest(low, e)?;

@@ -10,6 +10,3 @@ pub use best::{NewEnd, best_to, cut, loosest};
 pub use frame::{boxes_still_fit, ends_stay_limited, other_laws_stay_quiet};
 pub use law::Law;
 pub use shrinking::{own_ends, shrinks_by};
-
-#[cfg(test)]
-mod tests;

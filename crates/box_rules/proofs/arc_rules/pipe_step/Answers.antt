@@ -10,7 +10,7 @@ returns-then-low c =
     let b : FitsSigned w128 c.drop_gap.result = search rules in
     let x = simp (to_z-of_z, c.ranges.value) at c.drop_high.ensures in
     let y = simp (to_z-of_z, c.ranges.scale, f.u_lo, f.v_hi) at c.drop_gap.ensures in
-    simp (to_z-of_z, a, b) (rw (c.in-Flow.is, c.if-low.true, x, y) refl)
+    simp (to_z-of_z, a, b) (rw (c.in-OfFlow.is, c.if-low.true, x, y) refl)
 
 pub returns-else-low : goal.returns-else-low
 returns-else-low c =
@@ -19,7 +19,7 @@ returns-else-low c =
     let b : FitsSigned w128 c.drop_low.result = search rules in
     let x = simp (to_z-of_z, c.ranges.scale, f.u_hi, f.v_lo) at c.drop_gap-else-low.ensures in
     let y = simp (to_z-of_z, c.ranges.value) at c.drop_low.ensures in
-    simp (to_z-of_z, a, b) (rw (c.in-Flow.is, c.if-low.false, x, y) refl)
+    simp (to_z-of_z, a, b) (rw (c.in-OfFlow.is, c.if-low.false, x, y) refl)
 
 pub returns-then-low-2 : goal.returns-then-low-2
 returns-then-low-2 c =
@@ -28,7 +28,7 @@ returns-then-low-2 c =
     let b : FitsSigned w128 c.drop_low-then-low-2.result = search rules in
     let x = simp (to_z-of_z, c.ranges.scale, c.ranges.value, f.v_lo) at c.drop_gap-then-low-2.ensures in
     let y = simp (to_z-of_z, f.q_lo) at c.drop_low-then-low-2.ensures in
-    simp (to_z-of_z, a, b) (rw (c.in-From.is, c.if-low-2.true, x, y) refl)
+    simp (to_z-of_z, a, b) (rw (c.in-OfFrom.is, c.if-low-2.true, x, y) refl)
 
 pub returns-else-low-2 : goal.returns-else-low-2
 returns-else-low-2 c =
@@ -37,7 +37,7 @@ returns-else-low-2 c =
     let b : FitsSigned w128 c.drop_gap-else-low-2.result = search rules in
     let x = simp (to_z-of_z, f.q_hi) at c.drop_high-else-low-2.ensures in
     let y = simp (to_z-of_z, c.ranges.scale, c.ranges.value, f.v_hi) at c.drop_gap-else-low-2.ensures in
-    simp (to_z-of_z, a, b) (rw (c.in-From.is, c.if-low-2.false, x, y) refl)
+    simp (to_z-of_z, a, b) (rw (c.in-OfFrom.is, c.if-low-2.false, x, y) refl)
 
 pub returns-then-low-3 : goal.returns-then-low-3
 returns-then-low-3 c =
@@ -46,7 +46,7 @@ returns-then-low-3 c =
     let b : FitsSigned w128 c.drop_gap-then-low-3.result = search rules in
     let x = simp (to_z-of_z, f.q_hi) at c.drop_high-then-low-3.ensures in
     let y = simp (to_z-of_z, c.ranges.scale, c.ranges.value, f.u_lo) at c.drop_gap-then-low-3.ensures in
-    simp (to_z-of_z, a, b) (rw (c.in-To.is, c.if-low-3.true, x, y) refl)
+    simp (to_z-of_z, a, b) (rw (c.in-OfTo.is, c.if-low-3.true, x, y) refl)
 
 pub returns-else-low-3 : goal.returns-else-low-3
 returns-else-low-3 c =
@@ -55,4 +55,4 @@ returns-else-low-3 c =
     let b : FitsSigned w128 c.drop_low-else-low-3.result = search rules in
     let x = simp (to_z-of_z, c.ranges.scale, c.ranges.value, f.u_hi) at c.drop_gap-else-low-3.ensures in
     let y = simp (to_z-of_z, f.q_lo) at c.drop_low-else-low-3.ensures in
-    simp (to_z-of_z, a, b) (rw (c.in-To.is, c.if-low-3.false, x, y) refl)
+    simp (to_z-of_z, a, b) (rw (c.in-OfTo.is, c.if-low-3.false, x, y) refl)

@@ -10,7 +10,7 @@ returns-then-low c =
     let b : FitsSigned w128 c.ratio_square-then-low.result = search rules in
     let x = simp (to_z-of_z, c.ranges.value, c.ranges.num) at c.ratio_square.ensures in
     let y = simp (to_z-of_z, c.ranges.den, f.v_lo) at c.ratio_square-then-low.ensures in
-    simp (to_z-of_z, a, b) (rw (c.in-From.is, c.if-low.true, x, y) refl)
+    simp (to_z-of_z, a, b) (rw (c.in-OfFrom.is, c.if-low.true, x, y) refl)
 
 pub returns-then-not-low : goal.returns-then-not-low
 returns-then-not-low c =
@@ -19,4 +19,4 @@ returns-then-not-low c =
     let b : FitsSigned w128 c.ratio_square-then-not-low-2.result = search rules in
     let x = simp (to_z-of_z, c.ranges.num, f.u_hi) at c.ratio_square-then-not-low.ensures in
     let y = simp (to_z-of_z, c.ranges.value, c.ranges.den) at c.ratio_square-then-not-low-2.ensures in
-    simp (to_z-of_z, a, b) (rw (c.in-To.is, c.if-not-low.true, x, y) refl)
+    simp (to_z-of_z, a, b) (rw (c.in-OfTo.is, c.if-not-low.true, x, y) refl)

@@ -1,5 +1,4 @@
 use Rattle.std.proofs.Common.{to_z-of_z, sym}
-use Rattle.box_rules.specs.ArcSides.{ends_of_sides}
 use Rattle.box_rules.proofs.OtherRules.{drags_closing_else}
 use Rattle.box_rules.proofs.rules.drags_closing.Goals as goal
 
@@ -9,4 +8,4 @@ returns-in-Pipe c =
 
 pub returns-in_default : goal.returns-in_default
 returns-in_default c =
-    sym (drags_closing_else c.args.rule c.args.law.now c.args.scale (ends_of_sides c.args.e) c.in_default.not-Pipe)
+    sym (drags_closing_else c.args.rule c.args.law.now c.args.scale c.args.e c.in_default.not-Pipe)

@@ -1,5 +1,4 @@
 use Rattle.std.proofs.Common.{to_z-of_z, sym}
-use Rattle.box_rules.specs.ArcSides.{ends_of_sides, var_of_side}
 use Rattle.box_rules.proofs.SideFits.{safe_at_fits}
 use Rattle.box_rules.proofs.OtherRules.{drags_step_else}
 use Rattle.box_rules.proofs.rules.drags_step.Goals as goal
@@ -11,4 +10,4 @@ returns-in-Pipe c =
 
 pub returns-in_default : goal.returns-in_default
 returns-in_default c =
-    sym (drags_step_else c.args.rule c.args.law.now c.args.scale (ends_of_sides c.args.e) (var_of_side c.args.aim.side) c.args.aim.low c.args.aim.value c.in_default.not-Pipe)
+    sym (drags_step_else c.args.rule c.args.law.now c.args.scale c.args.e c.args.aim.side c.args.aim.low c.args.aim.value c.in_default.not-Pipe)

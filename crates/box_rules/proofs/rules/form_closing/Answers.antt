@@ -1,5 +1,4 @@
 use Rattle.std.proofs.Common.{to_z-of_z, sym}
-use Rattle.box_rules.specs.ArcSides.{ends_of_sides}
 use Rattle.box_rules.proofs.SideFits.{difference_fits, part_fits}
 use Rattle.box_rules.proofs.OtherRules.{never_closing_else, equals_closing_else, shuts_closing_else}
 use Rattle.box_rules.proofs.rules.form_closing.Goals as goal
@@ -20,10 +19,10 @@ returns-in-Raises c =
     rw c.in-Raises.is (simp (to_z-of_z, c.ranges.scale, part_fits c.in-Raises.ratio_num w.1.0, part_fits c.in-Raises.ratio_den w.1.1, difference_fits c.in-Raises.rise_max w.2) at c.raises_closing.ensures c.in-Raises.in_min c.in-Raises.out_max)
 
 pub returns-in-Never : goal.returns-in-Never
-returns-in-Never c = rw c.in-Never.is (sym (never_closing_else c.args.rule c.args.scale (ends_of_sides c.args.e)))
+returns-in-Never c = rw c.in-Never.is (sym (never_closing_else c.args.rule c.args.scale c.args.e))
 
 pub returns-in-Equals : goal.returns-in-Equals
-returns-in-Equals c = rw c.in-Equals.is (sym (equals_closing_else c.args.rule c.args.scale (ends_of_sides c.args.e)))
+returns-in-Equals c = rw c.in-Equals.is (sym (equals_closing_else c.args.rule c.args.scale c.args.e))
 
 pub returns-in-Shuts : goal.returns-in-Shuts
-returns-in-Shuts c = rw c.in-Shuts.is (sym (shuts_closing_else c.args.rule c.args.scale (ends_of_sides c.args.e)))
+returns-in-Shuts c = rw c.in-Shuts.is (sym (shuts_closing_else c.args.rule c.args.scale c.args.e))

@@ -1,5 +1,4 @@
 use Rattle.std.proofs.Common.{to_z-of_z, sym}
-use Rattle.box_rules.specs.ArcSides.{ends_of_sides, var_of_side}
 use Rattle.box_rules.proofs.SideFits.{difference_fits, part_fits}
 use Rattle.box_rules.proofs.OtherRules.{never_step_else}
 use Rattle.box_rules.proofs.rules.form_step.Goals as goal
@@ -20,4 +19,4 @@ returns-in-Raises c =
     rw c.in-Raises.is (simp (to_z-of_z, c.ranges.scale, difference_fits c.in-Raises.in_min w.0.0, difference_fits c.in-Raises.out_max w.0.1, part_fits c.in-Raises.ratio_num w.1.0, part_fits c.in-Raises.ratio_den w.1.1, difference_fits c.in-Raises.rise_max w.2) at c.raises_step.ensures)
 
 pub returns-in-Never : goal.returns-in-Never
-returns-in-Never c = rw c.in-Never.is (sym (never_step_else c.args.rule c.args.scale (ends_of_sides c.args.e) (var_of_side c.args.aim.side) c.args.aim.low c.args.aim.value))
+returns-in-Never c = rw c.in-Never.is (sym (never_step_else c.args.rule c.args.scale c.args.e c.args.aim.side c.args.aim.low c.args.aim.value))

@@ -1,5 +1,4 @@
 use Rattle.std.proofs.Common.{to_z-of_z, sym}
-use Rattle.box_rules.specs.ArcSides.{ends_of_sides}
 use Rattle.box_rules.proofs.OtherRules.{loses_closing_else}
 use Rattle.box_rules.proofs.rules.loses_closing.Goals as goal
 
@@ -13,4 +12,4 @@ returns-in-Drop c =
 
 pub returns-in_default : goal.returns-in_default
 returns-in_default c =
-    sym (loses_closing_else c.args.rule c.args.low c.args.high c.args.scale (ends_of_sides c.args.e) c.in_default.not-Reach c.in_default.not-Drop)
+    sym (loses_closing_else c.args.rule c.args.low c.args.high c.args.scale c.args.e c.in_default.not-Reach c.in_default.not-Drop)

@@ -1,5 +1,4 @@
 use Rattle.std.proofs.Common.{to_z-of_z, sym}
-use Rattle.box_rules.specs.ArcSides.{ends_of_sides}
 use Rattle.box_rules.proofs.OtherRules.{raises_closing_else}
 use Rattle.box_rules.proofs.rules.raises_closing.Goals as goal
 
@@ -10,4 +9,4 @@ pub returns-in-Ratio : goal.returns-in-Ratio
 returns-in-Ratio c in_min out_max = rw c.in-Ratio.is (simp (to_z-of_z, c.ranges.num, c.ranges.den) at c.ratio_closing.ensures)
 
 pub returns-in_default : goal.returns-in_default
-returns-in_default c in_min out_max = sym (raises_closing_else c.args.rule in_min out_max c.args.num c.args.den c.args.rise_max c.args.scale (ends_of_sides c.args.e) c.in_default.not-Rise c.in_default.not-Ratio)
+returns-in_default c in_min out_max = sym (raises_closing_else c.args.rule in_min out_max c.args.num c.args.den c.args.rise_max c.args.scale c.args.e c.in_default.not-Rise c.in_default.not-Ratio)

@@ -1,5 +1,5 @@
 use Rattle.std.proofs.Common.{ℕ, ◌<◌, IsTrue}
-use Rattle.element_laws.specs.Kept.{keeps_law}
+use Rattle.element_laws.specs.KeptLaws.{keeps_law}
 use Rattle.element_laws.proofs.arcs.first_law.Given as goal
 
 abbrev pub invariant-loop-arc : goal.invariant-loop-arc

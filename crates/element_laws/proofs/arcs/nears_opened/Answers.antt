@@ -11,5 +11,5 @@ returns-in-Loss c =
 
 pub returns-in-Pipe : goal.returns-in-Pipe
 returns-in-Pipe c =
-    let says = simp (to_z-of_z, c.ranges.tol, c.ranges.q, c.ranges.u, c.ranges.v) at c.nears_resistance.ensures in
+    let says = rw c.level.ensures at (simp (to_z-of_z, c.ranges.tol, c.ranges.q, c.ranges.u, c.ranges.v) at c.nears_resistance.ensures) in
     elim c.in-Pipe.is [ inl pipe ↦ rw pipe says | inr resistor ↦ rw resistor says ]

@@ -1,5 +1,5 @@
 use Rattle.std.proofs.Common.{ℕ, ◌<◌, IsTrue}
-use Rattle.element_laws.specs.Kept.{keeps_choice}
+use Rattle.element_laws.specs.KeptLaws.{keeps_choice}
 use Rattle.element_laws.proofs.choices.first_choice.Given as goal
 
 abbrev pub invariant-loop-arc : goal.invariant-loop-arc

@@ -1,6 +1,6 @@
 use Rattle.std.proofs.Common.{to_z-of_z, sym, arith}
 use Rattle.integer_laws.proofs.Ring.{linear}
-use Rattle.element_laws.proofs.Curves.{curve_forward, curve_back}
+use Rattle.gas_model.proofs.CurveFacts.{curve_forward, curve_back}
 use Rattle.element_laws.proofs.DropFits.{drag_parts, drop_fits}
 use Rattle.element_laws.proofs.drops.drop_high.Goals as goal
 

@@ -1,64 +1,23 @@
-use Rattle.std.proofs.Common.{◌≡◌, ◌<◌, ◌∙◌, sym, subst, refl, to_z, of_z, to_z-of_z, rules, ℤ, FitsSigned, Some, length}
+use Rattle.std.proofs.Common.{◌≡◌, sym, subst, refl, Some, length}
 use Rattle.std.specs.Prelude.{slice_get}
-use Rattle.std.specs.Int.{w128}
 use Rattle.std.proofs.lemmas.Option.{slice_get_read}
-use Rattle.box_rules.specs.ArcSides.{ends_of_sides, law_of_form, AreBoxSides}
-use Rattle.tree_rules.specs.ArcRules.{OfFlow}
-use Rattle.tight_steps.specs.Moves.{allows, part_box}
-use Rattle.tight_steps.specs.NewEnds.{HasNoEnd, IsFirstEnd}
-use Rattle.tight_steps.proofs.ArcMoves.{HasForm}
-use Rattle.flow_propagate.proofs.ArcFlows.{unfixed_none, ruleless_none, endless_none, first_end}
+use Rattle.gas_model.specs.declared.rows.ArcRow.{ArcRow}
+use Rattle.tree_rules.specs.Rules.{fixed_form}
+use Rattle.tight_steps.specs.Moves.{part_box}
+use Rattle.flow_propagate.proofs.ArcFlows.{unfixed_none}
 use Rattle.flow_propagate.proofs.arcs.best_at_arc.Goals as goal
 
-pub sides-requires-clause-row : goal.sides-requires-clause-row
-sides-requires-clause-row c = slice_get_read c.args.p.now.arcs (length c.args.p.now.arcs) c.args.arc c.index-arcs-arc.result refl c.requires.arc (rw c.arcs.ensures.rows at c.index-arcs-arc.is)
-
-pub best_end-requires-clause-ends : goal.best_end-requires-clause-ends
-best_end-requires-clause-ends c =
-    let scale : FitsSigned w128 c.scale.result = search rules in
-    simp (to_z-of_z, scale) (subst (λ (K : ℤ). AreBoxSides K c.sides.result) (sym c.scale.ensures.value) c.sides.ensures.limits)
+pub fixed_form-requires-clause-row : goal.fixed_form-requires-clause-row
+fixed_form-requires-clause-row c = slice_get_read c.args.p.now.arcs (length c.args.p.now.arcs) c.args.arc c.index-arcs-arc.result refl c.requires.arc (rw c.arcs.ensures.rows at c.index-arcs-arc.is)
 
 pub returns-in_err-form : goal.returns-in_err-form
 returns-in_err-form c =
-    let row = c.index-arcs-arc.result in
-    let at : slice_get c.args.p.now.arcs c.args.arc ≡ Some row = slice_get_read c.args.p.now.arcs (length c.args.p.now.arcs) c.args.arc row refl c.requires.arc (rw c.arcs.ensures.rows at c.index-arcs-arc.is) in
-    rw c.from_residual.ensures (unfixed_none c.args.p.now (part_box c.args.b.now.scale c.args.state.now c.args.b.now.bounds) c.args.arc row at (sym c.in_err-form.ensures.form))
-
-pub returns-in_err-rule : goal.returns-in_err-rule
-returns-in_err-rule c =
-    let row = c.index-arcs-arc.result in
-    let at : slice_get c.args.p.now.arcs c.args.arc ≡ Some row = slice_get_read c.args.p.now.arcs (length c.args.p.now.arcs) c.args.arc row refl c.requires.arc (rw c.arcs.ensures.rows at c.index-arcs-arc.is) in
-    let box = part_box c.args.b.now.scale c.args.state.now c.args.b.now.bounds in
-    let form = law_of_form c.in_ok-form.form in
-    let has : HasForm c.args.p.now box c.args.arc row form = record { row_is = at; form_is = sym c.in_ok-form.ensures.form } in
-    rw c.from_residual-in_err-rule.ensures (ruleless_none c.args.p.now box c.args.arc row form has (sym c.in_err-rule.ensures))
-
-pub returns-in_err-end : goal.returns-in_err-end
-returns-in_err-end c =
-    let row = c.index-arcs-arc.result in
-    let at : slice_get c.args.p.now.arcs c.args.arc ≡ Some row = slice_get_read c.args.p.now.arcs (length c.args.p.now.arcs) c.args.arc row refl c.requires.arc (rw c.arcs.ensures.rows at c.index-arcs-arc.is) in
-    let box = part_box c.args.b.now.scale c.args.state.now c.args.b.now.bounds in
-    let form = law_of_form c.in_ok-form.form in
-    let e = c.sides.result in
-    let scale : FitsSigned w128 c.scale.result = search rules in
-    let has : HasForm c.args.p.now box c.args.arc row form = record { row_is = at; form_is = sym c.in_ok-form.ensures.form } in
-    let raw : HasNoEnd e.q (allows c.in_ok-rule.rule form (to_z w128 (of_z w128 c.scale.result)) (ends_of_sides e) OfFlow) = c.in_err-end.ensures in
-    let none : HasNoEnd e.q (allows c.in_ok-rule.rule form c.scale.result (ends_of_sides e) OfFlow) = simp (to_z-of_z, scale) at raw in
-    let here : HasNoEnd e.q (allows c.in_ok-rule.rule form c.args.b.now.scale (ends_of_sides e) OfFlow) = subst (λ (K : ℤ). HasNoEnd e.q (allows c.in_ok-rule.rule form K (ends_of_sides e) OfFlow)) c.scale.ensures.value none in
-    rw c.from_residual-in_err-end.ensures (endless_none c.args.p.now box c.args.arc row form c.in_ok-rule.rule (ends_of_sides e) has (sym c.in_ok-rule.ensures) c.sides.ensures.ends here)
+    let own = c.index-arcs-arc.result in
+    let here : slice_get c.args.p.now.arcs c.args.arc ≡ Some own = slice_get_read c.args.p.now.arcs (length c.args.p.now.arcs) c.args.arc own refl c.requires.arc (rw c.arcs.ensures.rows at c.index-arcs-arc.is) in
+    rw c.from_residual.ensures (unfixed_none c.args.p.now (part_box c.args.b.now.scale c.args.state.now c.args.b.now.bounds) c.args.arc own here (sym c.in_err-form.ensures.form))
 
 pub returns : goal.returns
 returns c =
-    let row = c.index-arcs-arc.result in
-    let at : slice_get c.args.p.now.arcs c.args.arc ≡ Some row = slice_get_read c.args.p.now.arcs (length c.args.p.now.arcs) c.args.arc row refl c.requires.arc (rw c.arcs.ensures.rows at c.index-arcs-arc.is) in
-    let box = part_box c.args.b.now.scale c.args.state.now c.args.b.now.bounds in
-    let form = law_of_form c.in_ok-form.form in
-    let e = c.sides.result in
-    let m = c.in_ok-end.end in
-    let scale : FitsSigned w128 c.scale.result = search rules in
-    let value : FitsSigned w128 m.value = search rules in
-    let has : HasForm c.args.p.now box c.args.arc row form = record { row_is = at; form_is = sym c.in_ok-form.ensures.form } in
-    let raw : IsFirstEnd e.q (allows c.in_ok-rule.rule form (to_z w128 (of_z w128 c.scale.result)) (ends_of_sides e) OfFlow) m = c.in_ok-end.ensures in
-    let found : IsFirstEnd e.q (allows c.in_ok-rule.rule form c.scale.result (ends_of_sides e) OfFlow) m = simp (to_z-of_z, scale) at raw in
-    let here : IsFirstEnd e.q (allows c.in_ok-rule.rule form c.args.b.now.scale (ends_of_sides e) OfFlow) m = subst (λ (K : ℤ). IsFirstEnd e.q (allows c.in_ok-rule.rule form K (ends_of_sides e) OfFlow) m) c.scale.ensures.value found in
-    simp (to_z-of_z, value) (first_end c.args.p.now box c.args.arc row form c.in_ok-rule.rule (ends_of_sides e) m has (sym c.in_ok-rule.ensures) c.sides.ensures.ends here)
+    let own = c.index-arcs-arc.result in
+    let here : slice_get c.args.p.now.arcs c.args.arc ≡ Some own = slice_get_read c.args.p.now.arcs (length c.args.p.now.arcs) c.args.arc own refl c.requires.arc (rw c.arcs.ensures.rows at c.index-arcs-arc.is) in
+    c.best_by_form.ensures c.args.state.now (λ row at. subst (λ (r : ArcRow). fixed_form c.args.p.now c.args.state.now c.args.arc r ≡ Some c.in_ok-form.form) (let same : own ≡ row = cc (here, at) in same) (sym c.in_ok-form.ensures.form))

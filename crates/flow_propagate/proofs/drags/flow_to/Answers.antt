@@ -1,7 +1,6 @@
 use Rattle.std.proofs.Common.{◌≡◌, ◌^◌, to_z-of_z, rules, sym, subst, ℤ, ◌-ℤ◌, ◌*ℤ◌, FitsSigned}
 use Rattle.std.specs.Int.{w128}
 use Rattle.integer_laws.specs.Sizes.{IsWithin}
-use Rattle.box_rules.specs.ArcSides.{ends_of_sides}
 use Rattle.box_rules.proofs.SideFits.{sides_fit}
 use Rattle.tight_steps.proofs.Allowed.{safe_sides}
 use Rattle.flow_propagate.specs.Drops.{IsLeastFlow, IsGreatestFlow}
@@ -27,7 +26,7 @@ greatest_flow-requires-clause-gap c =
     let f = sides_fit c.args.e s in
     let gap : FitsSigned w128 c.drop_gap.result = search rules in
     let is = simp (to_z-of_z, c.ranges.scale, f.u_lo, f.v_hi) at c.drop_gap.ensures in
-    simp (to_z-of_z, gap) (subst (IsWithin (2 ^ 126)) (sym is) (gap_size c.args.law.now c.args.scale c.args.e.u.lo c.args.e.v.hi c.requires.law c.requires.ends.scale s.u.lo s.v.hi))
+    simp (to_z-of_z, gap) (subst (IsWithin (2 ^ 126)) (sym is) (gap_size c.args.law.now.drag c.args.scale c.args.e.u.lo c.args.e.v.hi c.requires.law c.requires.ends.scale s.u.lo s.v.hi))
 
 pub least_flow-requires-clause-gap : goal.least_flow-requires-clause-gap
 least_flow-requires-clause-gap c =
@@ -35,7 +34,7 @@ least_flow-requires-clause-gap c =
     let f = sides_fit c.args.e s in
     let gap : FitsSigned w128 c.drop_gap-else-low.result = search rules in
     let is = simp (to_z-of_z, c.ranges.scale, f.u_hi, f.v_lo) at c.drop_gap-else-low.ensures in
-    simp (to_z-of_z, gap) (subst (IsWithin (2 ^ 126)) (sym is) (gap_size c.args.law.now c.args.scale c.args.e.u.hi c.args.e.v.lo c.requires.law c.requires.ends.scale s.u.hi s.v.lo))
+    simp (to_z-of_z, gap) (subst (IsWithin (2 ^ 126)) (sym is) (gap_size c.args.law.now.drag c.args.scale c.args.e.u.hi c.args.e.v.lo c.requires.law c.requires.ends.scale s.u.hi s.v.lo))
 
 pub returns-then-low : goal.returns-then-low
 returns-then-low c =
@@ -46,7 +45,7 @@ returns-then-low c =
     let flow : FitsSigned w128 c.greatest_flow.result = search rules in
     let is = simp (to_z-of_z, c.ranges.scale, f.u_lo, f.v_hi) at c.drop_gap.ensures in
     let greatest = simp (to_z-of_z, gap) at c.greatest_flow.ensures in
-    simp (to_z-of_z, flow) (rw c.if-low.true (greatest_bound law c.args.scale c.greatest_flow.result (ends_of_sides e) e.q (subst (λ (g : ℤ). IsGreatestFlow law g c.greatest_flow.result) is greatest)))
+    simp (to_z-of_z, flow) (rw c.if-low.true (greatest_bound law c.args.scale c.greatest_flow.result e e.q (subst (λ (g : ℤ). IsGreatestFlow law.drag g c.greatest_flow.result) is greatest)))
 
 pub returns-else-low : goal.returns-else-low
 returns-else-low c =
@@ -57,4 +56,4 @@ returns-else-low c =
     let flow : FitsSigned w128 c.least_flow.result = search rules in
     let is = simp (to_z-of_z, c.ranges.scale, f.u_hi, f.v_lo) at c.drop_gap-else-low.ensures in
     let least = simp (to_z-of_z, gap) at c.least_flow.ensures.least in
-    simp (to_z-of_z, flow) (rw c.if-low.false (least_bound law c.args.scale c.least_flow.result (ends_of_sides e) e.q (subst (λ (g : ℤ). IsLeastFlow law g c.least_flow.result) is least)))
+    simp (to_z-of_z, flow) (rw c.if-low.false (least_bound law c.args.scale c.least_flow.result e e.q (subst (λ (g : ℤ). IsLeastFlow law.drag g c.least_flow.result) is least)))

@@ -7,7 +7,7 @@ use Rattle.gas_model.proofs.LimitFacts.{node_supplies}
 use Rattle.gas_model.proofs.NodeSums.{arc_within}
 use Rattle.element_laws.proofs.BoxEnds.{safe_flows}
 use Rattle.tight_steps.specs.NewEnds.{IsFirstEnd}
-use Rattle.flow_propagate.specs.FlowRules.{room}
+use Rattle.box_rules.specs.Balance.{balance_lets}
 use Rattle.flow_propagate.proofs.NodeFlows.{Sums, NoneBefore, none_yet, one_more, none_at_node, first_at_node}
 use Rattle.flow_propagate.proofs.AtNode.{at_touches}
 use Rattle.flow_propagate.proofs.nodes.best_at_node.Goals as goal
@@ -93,7 +93,7 @@ returns-in-Some c part =
       net_hi = c.net_flow-net.ensures.hi;
       flow_is = c.ends.ensures.value;
     } in
-    let found : IsFirstEnd c.ends.result (room (row.from == c.args.node) c.supply_of-supply.result c.net_flow-net.result c.ends.result) m = c.in-Some.ensures in
+    let found : IsFirstEnd c.ends.result (balance_lets (row.from == c.args.node) c.supply_of-supply.result c.net_flow-net.result c.ends.result) m = c.in-Some.ensures in
     simp (to_z-of_z, value) (first_at_node p b.scale b.bounds c.args.node at k c.supply_of-supply.result c.net_flow-net.result c.ends.result (row.from == c.args.node) m part c.arcs_at-at.ensures.arcs c.loop-arc-test.true c.loop-arc.invariant sums refl found)
 
 pub returns : goal.returns

@@ -1,7 +1,6 @@
 use Rattle.std.proofs.Common.{◌≡◌, sym, subst, to_z-of_z, rules, FitsSigned, ℤ, IsTrue}
 use Rattle.std.specs.Int.{w128}
 use Rattle.element_laws.specs.Sizes.{is_wide_square}
-use Rattle.box_rules.specs.ArcSides.{ends_of_sides}
 use Rattle.tight_steps.proofs.Allowed.{safe_sides, limited_sides}
 use Rattle.pressure_propagate.proofs.SquareBounds.{ReachesBy, KeepsApart, fall_apart, fall_reach, same_flags, other_flags, wide_opposite}
 use Rattle.pressure_propagate.proofs.bounds.fall_bound.Goals as goal
@@ -18,7 +17,7 @@ reach_bound-requires-clause-other c =
 
 pub returns-then-from-low : goal.returns-then-from-low
 returns-then-from-low c in_min out_max =
-    let e = ends_of_sides c.args.e in
+    let e = c.args.e in
     let limits = limited_sides c.args.scale c.args.e c.requires.ends in
     let other : FitsSigned w128 c.opposite-other.result = search rules in
     let result : FitsSigned w128 c.apart_bound.result = search rules in
@@ -28,7 +27,7 @@ returns-then-from-low c in_min out_max =
 
 pub returns-else-from-low : goal.returns-else-from-low
 returns-else-from-low c in_min out_max =
-    let e = ends_of_sides c.args.e in
+    let e = c.args.e in
     let limits = limited_sides c.args.scale c.args.e c.requires.ends in
     let other : FitsSigned w128 c.opposite-other.result = search rules in
     let result : FitsSigned w128 c.reach_bound.result = search rules in

@@ -1,10 +1,9 @@
 use Rattle.std.proofs.Common.{◌≡◌, sym, subst, to_z, of_z, to_z-of_z, rules, FitsSigned, ℤ}
 use Rattle.std.specs.Int.{w128}
-use Rattle.gas_model.specs.Laws.{equals, drags}
+use Rattle.gas_model.specs.declared.law_forms.LawForm.TheVariants.{Equals, Drags}
 use Rattle.tree_cert.specs.declared.line.Rule.TheVariants.{Pipe}
 use Rattle.tight_steps.specs.Best.{IsBound}
 use Rattle.tight_steps.specs.Moves.{allows, ends_at}
-use Rattle.box_rules.specs.ArcSides.{ends_of_sides}
 use Rattle.box_rules.proofs.SideFits.{difference_fits, part_fits}
 use Rattle.pressure_propagate.specs.SquareRules.{BoundsSquare, square_at}
 use Rattle.pressure_propagate.proofs.SquareBounds.{drags_rest, equals_all, shuts_all, never_all}
@@ -12,18 +11,18 @@ use Rattle.pressure_propagate.proofs.bounds.square_bound.Goals as goal
 
 pub returns-in-Drags : goal.returns-in-Drags
 returns-in-Drags c =
-    let e = ends_of_sides c.args.e in
+    let e = c.args.e in
     let x = square_at c.args.from in
     let result : FitsSigned w128 c.drag_bound.result = search rules in
-    let raw : IsBound c.args.low (ends_at e x) (allows Pipe (drags c.in-Drags.law) (to_z w128 (of_z w128 c.args.scale)) e x c.args.low) c.drag_bound.result = c.drag_bound.ensures in
-    let here : IsBound c.args.low (ends_at e x) (allows Pipe (drags c.in-Drags.law) c.args.scale e x c.args.low) c.drag_bound.result = simp (to_z-of_z, c.ranges.scale) at raw in
+    let raw : IsBound c.args.low (ends_at e x) (allows Pipe (Drags c.in-Drags.law) (to_z w128 (of_z w128 c.args.scale)) e x c.args.low) c.drag_bound.result = c.drag_bound.ensures in
+    let here : IsBound c.args.low (ends_at e x) (allows Pipe (Drags c.in-Drags.law) c.args.scale e x c.args.low) c.drag_bound.result = simp (to_z-of_z, c.ranges.scale) at raw in
     simp (to_z-of_z, result) (rw c.in-Drags.is (drags_rest c.args.rule c.in-Drags.law c.args.scale e c.args.from c.args.low c.drag_bound.result here))
 
 pub returns-in-Equals : goal.returns-in-Equals
 returns-in-Equals c =
-    let e = ends_of_sides c.args.e in
+    let e = c.args.e in
     let other : FitsSigned w128 c.opposite.result = search rules in
-    simp (to_z-of_z, other) (rw c.in-Equals.is (subst (λ (z : ℤ). BoundsSquare equals c.args.scale e c.args.from c.args.low c.args.rule z) (sym c.opposite.ensures) (equals_all c.args.rule c.args.scale e c.args.from c.args.low)))
+    simp (to_z-of_z, other) (rw c.in-Equals.is (subst (λ (z : ℤ). BoundsSquare Equals c.args.scale e c.args.from c.args.low c.args.rule z) (sym c.opposite.ensures) (equals_all c.args.rule c.args.scale e c.args.from c.args.low)))
 
 pub returns-in-Loses : goal.returns-in-Loses
 returns-in-Loses c =
@@ -47,7 +46,7 @@ returns-in-Raises c =
     simp (to_z-of_z, result) (rw c.in-Raises.is here)
 
 pub returns-in-Shuts : goal.returns-in-Shuts
-returns-in-Shuts c = rw c.in-Shuts.is (shuts_all c.args.rule c.args.scale (ends_of_sides c.args.e) c.args.from c.args.low _)
+returns-in-Shuts c = rw c.in-Shuts.is (shuts_all c.args.rule c.args.scale c.args.e c.args.from c.args.low _)
 
 pub returns-in-Never : goal.returns-in-Never
-returns-in-Never c = rw c.in-Never.is (never_all c.args.rule c.args.scale (ends_of_sides c.args.e) c.args.from c.args.low _)
+returns-in-Never c = rw c.in-Never.is (never_all c.args.rule c.args.scale c.args.e c.args.from c.args.low _)

@@ -1,5 +1,4 @@
 use Rattle.std.proofs.Common.{◌≡◌, ◌<◌, ◌≤◌, refl, sym, ◌∙◌, arith, to_z-of_z, length, get_or, true, false}
-use Rattle.box_rules.specs.ArcSides.{ends_of_sides, law_of_form}
 use Rattle.tree_cert.specs.declared.line.Rule.TheVariants.{Balance}
 use Rattle.tree_rules.specs.ArcRules.{arc_closing}
 use Rattle.pressure_propagate.proofs.RuleLists.{none_yet, one_more}
@@ -14,8 +13,8 @@ loop-rule-init c = none_yet _ c.closing_rules-rule-items.result.now
 
 pub loop-rule-preserved : goal.loop-rule-preserved
 loop-rule-preserved c =
-    let form = law_of_form c.args.form.now in
-    let e = ends_of_sides c.args.e in
+    let form = c.args.form.now in
+    let e = c.args.e in
     let rules = c.closing_rules-rule-items.result.now in
     let done = simp (to_z-of_z, c.ranges.scale) at c.loop-rule.invariant in
     let test = simp (to_z-of_z, c.ranges.scale) at c.form_closing.ensures in
@@ -24,8 +23,8 @@ loop-rule-preserved c =
 
 pub returns-then-form_closing : goal.returns-then-form_closing
 returns-then-form_closing c =
-    let form = law_of_form c.args.form.now in
-    let e = ends_of_sides c.args.e in
+    let form = c.args.form.now in
+    let e = c.args.e in
     let rules = c.closing_rules-rule-items.result.now in
     let done = simp (to_z-of_z, c.ranges.scale) at c.loop-rule.invariant in
     let test = simp (to_z-of_z, c.ranges.scale) at c.form_closing.ensures in
@@ -34,8 +33,8 @@ returns-then-form_closing c =
 
 pub returns : goal.returns
 returns c =
-    let form = law_of_form c.args.form.now in
-    let e = ends_of_sides c.args.e in
+    let form = c.args.form.now in
+    let e = c.args.e in
     let rules = c.closing_rules-rule-items.result.now in
     let done = simp (to_z-of_z, c.ranges.scale) at c.loop-rule.invariant in
     let ended : length rules ≡ c.loop-rule.rule-index = omega (arith, c.loop-rule-test.false, c.loop-rule.auto.rule-index-end) in

@@ -1,14 +1,13 @@
 use Rattle.std.proofs.Common.{◌≡◌, true, false, to_z, of_z, to_z-of_z, rules, FitsSigned}
 use Rattle.std.specs.Int.{w128}
-use Rattle.box_rules.specs.ArcSides.{ends_of_sides, law_of_form}
 use Rattle.pressure_propagate.specs.SquareRules.{square_at, HasNoRule, IsFirstRule}
 use Rattle.pressure_propagate.proofs.SquareMoves.{low_found, high_found, neither_found}
 use Rattle.pressure_propagate.proofs.ends.first_end.Goals as goal
 
 pub returns-in-Some : goal.returns-in-Some
 returns-in-Some c =
-    let form = law_of_form c.args.form.now in
-    let e = ends_of_sides c.args.e in
+    let form = c.args.form.now in
+    let e = c.args.e in
     let x = square_at c.args.from in
     let value : FitsSigned w128 c.in-Some.found.value = search rules in
     let raw_first : IsFirstRule form (to_z w128 (of_z w128 c.args.scale)) e x true c.in-Some.found = c.in-Some.ensures in
@@ -17,8 +16,8 @@ returns-in-Some c =
 
 pub returns-in_err-found : goal.returns-in_err-found
 returns-in_err-found c =
-    let form = law_of_form c.args.form.now in
-    let e = ends_of_sides c.args.e in
+    let form = c.args.form.now in
+    let e = c.args.e in
     let x = square_at c.args.from in
     let raw_low : HasNoRule form (to_z w128 (of_z w128 c.args.scale)) e x true = c.in_default.ensures in
     let low : HasNoRule form c.args.scale e x true = simp (to_z-of_z, c.ranges.scale) at raw_low in
@@ -28,8 +27,8 @@ returns-in_err-found c =
 
 pub returns : goal.returns
 returns c =
-    let form = law_of_form c.args.form.now in
-    let e = ends_of_sides c.args.e in
+    let form = c.args.form.now in
+    let e = c.args.e in
     let x = square_at c.args.from in
     let value : FitsSigned w128 c.in_ok-found.found.value = search rules in
     let raw_low : HasNoRule form (to_z w128 (of_z w128 c.args.scale)) e x true = c.in_default.ensures in

@@ -1,6 +1,5 @@
 use Rattle.std.proofs.Common.{◌≡◌, refl, arith, to_z, of_z, to_z-of_z, rules, FitsSigned, length, get_or}
 use Rattle.std.specs.Int.{w128}
-use Rattle.box_rules.specs.ArcSides.{ends_of_sides, law_of_form}
 use Rattle.tree_cert.specs.declared.line.Rule.TheVariants.{Balance}
 use Rattle.tight_steps.specs.Best.{IsBest}
 use Rattle.tight_steps.specs.Moves.{allows, ends_at}
@@ -14,8 +13,8 @@ loop-rule-init c = none_yet _ c.square_rules-rule-items.result.now
 
 pub loop-rule-preserved : goal.loop-rule-preserved
 loop-rule-preserved c =
-    let form = law_of_form c.args.form.now in
-    let e = ends_of_sides c.args.e in
+    let form = c.args.form.now in
+    let e = c.args.e in
     let rules_of = c.square_rules-rule-items.result.now in
     let P = Leaves form c.args.scale e c.args.from c.args.low in
     let done : AreDone P rules_of c.loop-rule.rule-index = simp (to_z-of_z, c.ranges.scale) at c.loop-rule.invariant in
@@ -25,8 +24,8 @@ loop-rule-preserved c =
 
 pub returns-in-Some : goal.returns-in-Some
 returns-in-Some c =
-    let form = law_of_form c.args.form.now in
-    let e = ends_of_sides c.args.e in
+    let form = c.args.form.now in
+    let e = c.args.e in
     let rules_of = c.square_rules-rule-items.result.now in
     let P = Leaves form c.args.scale e c.args.from c.args.low in
     let rule = get_or rules_of c.loop-rule.rule-index Balance in
@@ -38,8 +37,8 @@ returns-in-Some c =
 
 pub returns : goal.returns
 returns c =
-    let form = law_of_form c.args.form.now in
-    let e = ends_of_sides c.args.e in
+    let form = c.args.form.now in
+    let e = c.args.e in
     let rules_of = c.square_rules-rule-items.result.now in
     let P = Leaves form c.args.scale e c.args.from c.args.low in
     let done : AreDone P rules_of c.loop-rule.rule-index = simp (to_z-of_z, c.ranges.scale) at c.loop-rule.invariant in

@@ -1,8 +1,7 @@
-use Rattle.box_rules.specs.ArcSides.{ends_of_sides, law_of_form}
 use Rattle.pressure_propagate.proofs.RuleLists.{AreDone}
 use Rattle.pressure_propagate.proofs.SquareMoves.{Leaves}
 use Rattle.pressure_propagate.proofs.ends.first_rule.Given as goal
 
 -- no rule so far moves the end
 abbrev pub invariant-loop-rule : goal.invariant-loop-rule
-invariant-loop-rule l = AreDone (Leaves (law_of_form l.fn.form) l.fn.scale (ends_of_sides l.fn.e) l.fn.from l.fn.low) l.rule-items l.rule-index
+invariant-loop-rule l = AreDone (Leaves l.fn.form l.fn.scale l.fn.e l.fn.from l.fn.low) l.rule-items l.rule-index

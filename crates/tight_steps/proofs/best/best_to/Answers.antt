@@ -1,6 +1,7 @@
 use Rattle.std.proofs.Common.{◌≡◌, ◌∙◌, sym, true, false, FitsSigned, to_z-of_z, rules}
 use Rattle.std.specs.Int.{w128}
-use Rattle.tight_steps.specs.Best.{reaches, IsLoosest}
+use Rattle.tight_steps.specs.Best.{IsLoosest}
+use Rattle.tree_rules.specs.Looser.{reaches}
 use Rattle.tight_steps.proofs.Bests.{ends_fit, best_from, none_from, reach_is_bound, reaches_loosen}
 use Rattle.tight_steps.proofs.best.best_to.Goals as goal
 
