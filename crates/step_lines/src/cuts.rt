@@ -3,7 +3,7 @@ ghost use Rattle.std.specs.Prelude.{◌≡◌, ◌++◌, codes, IfSome};
 ghost use Rattle.step_lines.specs.Fronts.{AreNodesBefore, IsCutBefore};
 
 use crate::digits::number_front;
-use gas_model::List;
+use base_types::List;
 use std::alloc::Global;
 
 // Nodes that ascend strictly, at least one, each with the space or the line feed behind it, and what comes after the line.

@@ -5,7 +5,7 @@ ghost use Rattle.line_text.specs.Long.{fits_position, fits_long};
 ghost use Rattle.tree_cert.specs.Spelling.{end_text, var_text, rule_text, fits_var};
 
 use crate::digits::number_before;
-use gas_model::Var;
+use base_types::Var;
 use tree_cert::Rule;
 
 /// The word of an end in front of bytes, and what comes after the space behind it.

@@ -8,6 +8,3 @@ mod fields;
 mod reading;
 
 pub use reading::next_line;
-
-#[cfg(test)]
-mod tests;

@@ -8,10 +8,10 @@ use Rattle.std.proofs.lemmas.Bool.Decides.{nat_tests}
 use Rattle.std.proofs.lemmas.Slice.Eq.{bytes_eq-Decides}
 use Rattle.std.proofs.lemmas.Str.{IsUtf8-from_ascii, is_utf8-from_IsUtf8}
 use Rattle.std.proofs.lemmas.Str.Ascii.{IsAscii-nil, IsAscii-cons}
-use Rattle.gas_model.specs.declared.rows.ArcState.{ArcState}
-use Rattle.gas_model.specs.declared.rows.ArcState.TheVariants.{Opened, Shut, Active, Bypass}
-use Rattle.gas_model.specs.declared.rows.Var.{Var}
-use Rattle.gas_model.specs.declared.rows.Var.TheVariants.{Flow, Square}
+use Rattle.base_types.specs.declared.states.ArcState.{ArcState}
+use Rattle.base_types.specs.declared.states.ArcState.TheVariants.{Opened, Shut, Active, Bypass}
+use Rattle.base_types.specs.declared.variables.Var.{Var}
+use Rattle.base_types.specs.declared.variables.Var.TheVariants.{Flow, Square}
 use Rattle.line_text.specs.Words.{word_len, field_at}
 use Rattle.line_text.specs.Numerals.{numeral, signed_numeral, natural, integer}
 use Rattle.line_text.specs.Long.{fits_position, fits_long, fitting, position_at, long_at}
@@ -23,8 +23,8 @@ use Rattle.tree_cert.specs.declared.line.Rule.TheVariants as rules
 use Rattle.tree_cert.specs.declared.fault.LineFault.{LineFault}
 use Rattle.tree_cert.specs.declared.fault.LineFault.TheVariants as fault
 use Rattle.tree_cert.specs.Spelling.{var_text, rule_text, end_text, fits_var}
-use Rattle.gas_model.specs.Words.{state_word, state_named}
-use Rattle.gas_model.proofs.StateWords.{word_names, named_only}
+use Rattle.base_types.specs.StateWords.{state_word, state_named}
+use Rattle.base_types.proofs.StateWords.{word_names, named_only}
 use Rattle.tree_cert.specs.Fields.{◌>>=◌, found, text_field, ended, position_field, number_field, var_at, var_field, all_rules, rule_at, rule_field, state_field, end_at, end_field}
 
 -- the words, each after one space

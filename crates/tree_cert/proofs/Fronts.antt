@@ -6,7 +6,7 @@ use Rattle.std.specs.List.{flat_map}
 use Rattle.std.proofs.lemmas.Grind.{flat_map-append}
 use Rattle.std.proofs.lemmas.List.{append-nil}
 use Rattle.std.proofs.Math.Seq.{drop-cons}
-use Rattle.gas_model.specs.declared.collections.NoMemory.{NoMemory}
+use Rattle.base_types.specs.declared.collections.NoMemory.{NoMemory}
 use Rattle.tree_cert.specs.Writing.{Adds, AddsFront}
 
 -- all of it, or nothing

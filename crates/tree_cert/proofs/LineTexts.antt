@@ -4,8 +4,8 @@ use Rattle.std.specs.Prelude.{option_map, codes, nat_lt}
 use Rattle.std.specs.List.{list_all}
 use Rattle.std.specs.Str.{bytes_eq}
 use Rattle.std.proofs.lemmas.Slice.Eq.{bytes_eq-Decides}
-use Rattle.gas_model.specs.declared.rows.ArcState.{ArcState}
-use Rattle.gas_model.specs.declared.rows.Var.{Var}
+use Rattle.base_types.specs.declared.states.ArcState.{ArcState}
+use Rattle.base_types.specs.declared.variables.Var.{Var}
 use Rattle.line_text.specs.Words.{word_len, joined}
 use Rattle.line_text.specs.Numerals.{numeral, signed_numeral}
 use Rattle.line_text.specs.Long.{fits_position, fits_long, fitting}
@@ -22,7 +22,7 @@ use Rattle.tree_cert.specs.declared.fault.LineFault.{LineFault}
 use Rattle.tree_cert.specs.declared.words.LineWord.{LineWord}
 use Rattle.tree_cert.specs.declared.words.LineWord.TheVariants as first
 use Rattle.tree_cert.specs.Spelling.{var_text, rule_text, end_text, first_word, other_words, closing_words, is_node_list, fits_var, fits_line, has_ordered_cut}
-use Rattle.gas_model.specs.Words.{state_word}
+use Rattle.base_types.specs.StateWords.{state_word}
 use Rattle.tree_cert.specs.Fields.{◌>>=◌, found, text_field, ended, position_field, number_field, var_field, all_rules, rule_at, rule_field, state_field, end_field}
 use Rattle.tree_cert.specs.Reading.{step_of, step_at, empty_at, nodes_at, cut_at, rule_closing_at, after_close, closing_at, lone, of_position, halve_at, take_of, take_at, state_at, half_of, half_at, first_line, first_at, word_text, all_words, first_word_at, after_word, line_at}
 use Rattle.tree_cert.proofs.FieldTexts.{spaced, spaced_start, bound_ok, found_ok, found_text, fixed_word, rule_is_word, rule_again, made_where, NeverWide, found_never, bound_never, text_never, ended_never, position_never, number_never, var_never, rule_never, state_never, end_never, position_field_again, position_field_takes, number_field_again, number_field_takes, var_field_again, var_field_takes, rule_field_again, rule_field_takes, state_field_again, state_field_takes, end_field_again, end_field_takes, text_field_again, text_field_takes, ended_takes}

@@ -2,7 +2,7 @@
 use Rattle.std.specs.Prelude.{◌≡◌, ℕ, ◌-◌, ◌==◌, Bool, true, false, List, [], ◌∷◌, length, take, drop, codes, if◌then◌else◌, slice_index, Option, Some, None, option_map, option_and_then, Result, Ok, Err, ℤ}
 use Rattle.std.specs.List.{slice_split, list_all, find}
 use Rattle.std.specs.Str.{bytes_eq}
-use Rattle.gas_model.specs.declared.rows.Var.{Var}
+use Rattle.base_types.specs.declared.variables.Var.{Var}
 use Rattle.line_text.specs.Numerals.{natural}
 use Rattle.line_text.specs.Words.{word_len}
 use Rattle.line_text.specs.Long.{fits_position, fitting}

@@ -2,9 +2,9 @@
 use Rattle.std.specs.Prelude.{◌≡◌, ℕ, nat_lt, Bool, true, false, ◌&&◌, List, [], ◌∷◌, ◌++◌, map, codes}
 use Rattle.line_text.specs.Numerals.{numeral, signed_numeral}
 use Rattle.std.specs.List.{flat_map, list_all}
-use Rattle.gas_model.specs.Words.{state_word}
-use Rattle.gas_model.specs.declared.rows.Var.{Var}
-use Rattle.gas_model.specs.declared.rows.Var.TheVariants.{Flow, Square}
+use Rattle.base_types.specs.StateWords.{state_word}
+use Rattle.base_types.specs.declared.variables.Var.{Var}
+use Rattle.base_types.specs.declared.variables.Var.TheVariants.{Flow, Square}
 use Rattle.line_text.specs.Words.{joined}
 use Rattle.line_text.specs.Long.{fits_position, fits_long}
 use Rattle.tree_cert.specs.declared.line.Rule.{Rule}

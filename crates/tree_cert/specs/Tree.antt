@@ -1,6 +1,6 @@
 -- A refutation tree, and its text as a list of lines.
 use Rattle.std.specs.Prelude.{ℕ, List, [], ◌∷◌, ◌++◌}
-use Rattle.gas_model.specs.declared.rows.Var.{Var}
+use Rattle.base_types.specs.declared.variables.Var.{Var}
 use Rattle.tree_cert.specs.declared.line.Step.{Step}
 use Rattle.tree_cert.specs.declared.line.Closing.{Closing}
 use Rattle.tree_cert.specs.declared.line.Head.{Head}

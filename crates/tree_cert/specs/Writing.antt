@@ -2,12 +2,12 @@
 use Rattle.std.specs.Prelude.{◌≡◌, ℕ, Bool, true, List, ◌∷◌, ◌++◌, Result, Ok, Err}
 use Rattle.line_text.specs.Numerals.{numeral, signed_numeral}
 use Rattle.std.specs.List.{flat_map}
-use Rattle.gas_model.specs.declared.collections.NoMemory.{NoMemory}
+use Rattle.base_types.specs.declared.collections.NoMemory.{NoMemory}
 use Rattle.line_text.specs.Long.{fits_position, fits_long}
 use Rattle.tree_cert.specs.declared.writing.Field.{Field}
 use Rattle.tree_cert.specs.declared.writing.Field.TheVariants.{Position, Number, Variable, Named, InState, AtEnd}
 use Rattle.tree_cert.specs.Spelling.{var_text, rule_text, end_text, fits_var}
-use Rattle.gas_model.specs.Words.{state_word}
+use Rattle.base_types.specs.StateWords.{state_word}
 
 -- a front of the piece was added at the end
 abbrev pub AddsFront : (before after piece : List ℕ) → Type 0

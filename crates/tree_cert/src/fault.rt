@@ -2,7 +2,7 @@
 ghost use Rattle.std.specs.Prelude.{◌≡◌};
 ghost use Rattle.tree_cert.specs.declared.fault.LineFault.TheVariants as line_fault;
 
-use gas_model::NoMemory;
+use base_types::NoMemory;
 
 /// Why bytes are no line.
 #[derive(Clone, Copy, Debug, PartialEq, Eq)]

@@ -5,7 +5,7 @@ ghost use Rattle.tree_cert.specs.Fields.{Gives, text_field, ended, position_fiel
 use crate::fault::LineFault;
 use crate::line::Rule;
 use crate::words::{end_at, rule_at};
-use gas_model::{ArcState, Var, state_named};
+use base_types::{ArcState, Var, state_named};
 use line_text::{field_at, long_at, position_at};
 
 /// A field of text, and what comes after it.

@@ -20,6 +20,3 @@ pub use line::{Closing, Head, Line, Rule, Step};
 pub use pieces::cut_piece;
 pub use reading::read_line;
 pub use writing::{write_line, write_tree};
-
-#[cfg(test)]
-mod tests;

@@ -1,5 +1,5 @@
 // The parts of a refutation tree, as its lines say them.
-use gas_model::{ArcState, List, Var};
+use base_types::{ArcState, List, Var};
 
 /// A rule by which a step moves an end, or by which a closing holds.
 #[derive(Clone, Copy, Debug, PartialEq, Eq)]

@@ -7,7 +7,7 @@ ghost use Rattle.tree_cert.specs.Reading.{nodes_at};
 ghost use Rattle.tree_cert.specs.Nodes.{with_node, node_field};
 
 use crate::fault::LineFault;
-use gas_model::{List, NoMemory};
+use base_types::{List, NoMemory};
 use line_text::{bytes_at, position_in};
 use std::alloc::Global;
 

@@ -12,7 +12,7 @@ use crate::fields::{
 use crate::line::{Closing, Head, Line, Rule, Step};
 use crate::nodes::nodes_at;
 use crate::words::{LineWord, first_word_at, rule_at};
-use gas_model::Var;
+use base_types::Var;
 use line_text::cut_word;
 use std::alloc::Global;
 

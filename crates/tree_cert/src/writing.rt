@@ -10,7 +10,7 @@ ghost use Rattle.tree_cert.specs.Writing.{Adds, AddsFront, field_text, fields_te
 
 use crate::line::{Closing, Head, Line, Rule, Step};
 use crate::words::{end_word, rule_word};
-use gas_model::{ArcState, Bytes, NoMemory, Var, state_word};
+use base_types::{ArcState, Bytes, NoMemory, Var, state_word};
 use line_text::{put_long, put_position};
 use std::alloc::Global;
 

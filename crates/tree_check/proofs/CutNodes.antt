@@ -6,7 +6,7 @@ use Rattle.std.proofs.lemmas.Bool.Decides.{nat_tests}
 use Rattle.std.proofs.Math.Seq.{drop-cons, take-length}
 use Rattle.std.proofs.lemmas.List.{drop_all}
 use borrow.Author.Differences.{fits_in}
-use Rattle.gas_model.specs.Limits.{is_flow}
+use Rattle.base_types.specs.Numbers.{is_flow}
 use Rattle.gas_model.proofs.LimitFacts.{flow_size}
 use Rattle.std.proofs.lemmas.Bool.{and_parts, and_from}
 use borrow.Author.Tests.{ltb-true, lt-ltb}

@@ -1,7 +1,7 @@
 -- The heads that are expected, one after the other.
 use Rattle.std.proofs.Common.{filter, ne_eqb, subst, is_some, ◌==◌, ◌≡◌, ◌≢◌, ℕ, suc, ◌+◌, ◌-◌, ◌<◌, ◌≤◌, refl, sym, ap, ◌∙◌, arith, List, [], ◌∷◌, map, length, Bool, true, false, Option, Some, None, IsTrue, cond}
 use Rattle.std.specs.List.{range_with_len}
-use Rattle.gas_model.specs.declared.rows.ArcState.{ArcState}
+use Rattle.base_types.specs.declared.states.ArcState.{ArcState}
 use Rattle.tree_cert.specs.declared.line.Head.{Head}
 use Rattle.tree_cert.specs.declared.line.Head.TheVariants.{Take, State}
 use Rattle.std.specs.Prelude.{slice_get, option_map, option_and_then}

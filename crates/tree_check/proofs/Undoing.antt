@@ -4,10 +4,10 @@ use Rattle.std.specs.Prelude.{slice_get, slice_set}
 use Rattle.std.proofs.lemmas.List.{set-get_or}
 use Rattle.std.proofs.lemmas.Option.{slice_get-get_or}
 use Rattle.integer_laws.proofs.Ring.{linear}
-use Rattle.gas_model.specs.declared.rows.ArcState.{ArcState}
+use Rattle.base_types.specs.declared.states.ArcState.{ArcState}
 use Rattle.gas_model.specs.declared.rows.Ends.{Ends}
-use Rattle.gas_model.specs.declared.rows.Var.{Var}
-use Rattle.gas_model.specs.declared.rows.Var.TheVariants.{Flow, Square}
+use Rattle.base_types.specs.declared.variables.Var.{Var}
+use Rattle.base_types.specs.declared.variables.Var.TheVariants.{Flow, Square}
 use Rattle.gas_model.specs.Rows.{Network}
 use Rattle.gas_model.specs.Boxes.{no_ends, ends_of, with_end, with_ends, may_become}
 use Rattle.gas_model.specs.Choices.{PartFits, fresh_part}
@@ -134,21 +134,3 @@ moved_safe K (Flow a) true C e k h t = (safe_flows K (with_end true C e) k (end_
 moved_safe K (Flow a) false C e k h t = (safe_flows K (with_end false C e) k (end_moved K (Flow a) false C e h t)).hi
 moved_safe K (Square n) true C e k h t = (safe_squares K (with_end true C e) k (end_moved K (Square n) true C e h t)).lo
 moved_safe K (Square n) false C e k h t = (safe_squares K (with_end false C e) k (end_moved K (Square n) false C e h t)).hi
-
--- ---- nothing is picked and named
-nothing_at : {X : Type 0} (n k : ℕ) (x : X) → slice_get (replicate {A = Option X} n None) k ≡ Some (Some x) → ⊥
-nothing_at zero k x e = absurd cc
-nothing_at (suc n) zero x e = absurd cc
-nothing_at (suc n) (suc k) x e = nothing_at n k x e
-
-as_many : {X : Type 0} (n : ℕ) (x : X) → length (replicate n x) ≡ n
-as_many zero x = refl
-as_many (suc n) x = ap suc (as_many n x)
-
-pub fresh_fits : (p : Network) → PartFits p (fresh_part p)
-fresh_fits p = record {
-  picks = as_many (length p.groups) None;
-  states = as_many (length p.arcs) None;
-  within = λ k g j e s. absurd (nothing_at (length p.groups) k j s);
-  kinds = λ a row state e s. absurd (nothing_at (length p.arcs) a state s);
-}

@@ -8,7 +8,7 @@ use Rattle.gas_model.specs.Rows.{Network}
 use Rattle.gas_model.specs.Choices.{fixed_state}
 use Rattle.tree_cert.specs.Spelling.{ascends_after}
 use Rattle.tree_rules.specs.NodeRules.{is_cut_node, crosses}
-use Rattle.tree_rules.specs.Rules.{is_shut}
+use Rattle.gas_model.specs.Laws.{is_shut}
 
 -- at least one number, strictly ascending
 abbrev pub ascends : List ℕ → Bool

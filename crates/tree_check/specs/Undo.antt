@@ -2,11 +2,11 @@
 use Rattle.std.specs.Prelude.{◌≡◌, ℕ, ◌<◌, ◌≤◌, ◌-◌, ◌^◌, ℤ, pos, neg_ℤ, ◌*ℤ◌, ◌≤ℤ◌, List, [], ◌∷◌, map, Option, Some, slice_get, slice_set, length, IsTrue}
 use Rattle.std.specs.List.{range_with_len, list_all}
 use Rattle.gas_model.specs.declared.rows.ArcRow.{ArcRow}
-use Rattle.gas_model.specs.declared.rows.ArcState.{ArcState}
+use Rattle.base_types.specs.declared.states.ArcState.{ArcState}
 use Rattle.gas_model.specs.declared.rows.Group.{Group}
 use Rattle.gas_model.specs.declared.rows.PartState.{PartState}
-use Rattle.gas_model.specs.declared.rows.Var.{Var}
-use Rattle.gas_model.specs.declared.rows.Var.TheVariants.{Flow, Square}
+use Rattle.base_types.specs.declared.variables.Var.{Var}
+use Rattle.base_types.specs.declared.variables.Var.TheVariants.{Flow, Square}
 use Rattle.gas_model.specs.Rows.{Network}
 use Rattle.gas_model.specs.Boxes.{Bounds, with_ends, is_var}
 use Rattle.gas_model.specs.Choices.{has_state}

@@ -4,40 +4,23 @@ ghost use Rattle.std.specs.Option.{option_map_or};
 ghost use Rattle.tree_rules.specs.NodeRules as node_rule;
 ghost use Rattle.tree_rules.specs.Rules as spec;
 ghost use Rattle.tree_rules.specs.Rules.{flow_lo, flow_hi};
-ghost use Rattle.box_rules.specs.Balance.{leaves_with, enters_with, AreSums};
+ghost use Rattle.box_rules.specs.Balance.{balance_lets, AreSums};
 ghost use Rattle.element_laws.specs.Sizes.{AreSafeFlows};
 ghost use Rattle.tree_check.specs.Held.{IsBoxAt};
 
 use crate::open_box::OpenBox;
-use box_rules::{left_over, net_flow, node_closing, supply_of};
+use box_rules::{balance_bound, net_flow, node_closing, supply_of};
 use gas_model::{ArcRow, Ends, NodeRow, Problem, Var};
 
-// Whether the balance lets an end of a flow that leaves the node become this value.
-fn leaves_with(supply: Ends, net: Ends, q: Ends, low: bool, value: i128) -> bool
+// Whether the balance lets an end of a flow that leaves the node, or else enters it, become this value.
+fn balance_lets(leaves: bool, supply: Ends, net: Ends, q: Ends, low: bool, value: i128) -> bool
     requires supply { AreSums supply }
     requires net { AreSums net }
     requires flow { AreSafeFlows q }
-    ensures { result ≡ leaves_with supply net q low value }
+    ensures { result ≡ balance_lets leaves supply net q low value }
 {
-    if low {
-        value <= left_over(supply.lo, net.hi, q.hi)
-    } else {
-        left_over(supply.hi, net.lo, q.lo) <= value
-    }
-}
-
-// The same of a flow that enters it.
-fn enters_with(supply: Ends, net: Ends, q: Ends, low: bool, value: i128) -> bool
-    requires supply { AreSums supply }
-    requires net { AreSums net }
-    requires flow { AreSafeFlows q }
-    ensures { result ≡ enters_with supply net q low value }
-{
-    if low {
-        value <= left_over(net.lo, supply.hi, q.hi)
-    } else {
-        left_over(net.hi, supply.lo, q.lo) <= value
-    }
+    let bound = balance_bound(leaves, supply, net, q, low);
+    if low { value <= bound } else { bound <= value }
 }
 
 // Whether the balance of a node lets an end of the flow of an arc become this value.
@@ -60,9 +43,9 @@ fn flow_step(
     let supply = supply_of(b.scale(), node_row);
     let q = b.ends(Var::Flow(arc));
     if row.from == node {
-        leaves_with(supply, net, q, low, value)
+        balance_lets(true, supply, net, q, low, value)
     } else if row.to == node {
-        enters_with(supply, net, q, low, value)
+        balance_lets(false, supply, net, q, low, value)
     } else {
         false
     }

@@ -9,7 +9,7 @@ ghost use Rattle.tree_check.specs.Held.{IsBoxAt};
 
 use crate::open_box::OpenBox;
 use crate::states::fixed_state;
-use gas_model::{ArcRow, ArcState, Ends, Problem};
+use gas_model::{ArcRow, Ends, Problem, is_shut};
 
 // Whether there is a node, and each is after the one before it.
 fn ascend(nodes: &[u32]) -> bool
@@ -55,18 +55,6 @@ fn crosses(nodes: &[u32], marks: &[bool; 2_000], row: &ArcRow) -> bool
     ensures { result ≡ node_rule.crosses nodes.now row.now }
 {
     marks[row.from as usize] != marks[row.to as usize]
-}
-
-fn is_shut(state: Option<ArcState>) -> bool
-    ensures { result ≡ spec.is_shut state }
-{
-    match state {
-        Some(ArcState::Shut) => true,
-        Some(ArcState::Opened) => false,
-        Some(ArcState::Active) => false,
-        Some(ArcState::Bypass) => false,
-        None => false,
-    }
 }
 
 // Whether an arc doesn't join the marked nodes to others, or is shut.

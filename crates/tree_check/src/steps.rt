@@ -5,9 +5,9 @@ ghost use Rattle.tree_rules.specs.Rules as spec;
 ghost use Rattle.element_laws.specs.Sizes.{IsSafe, AreSafe};
 ghost use Rattle.tree_check.specs.Held.{IsBoxAt};
 
+use crate::arc_steps::{law_closing, law_step};
 use crate::balance::{balance_closing, balance_step};
 use crate::cuts::cuts;
-use crate::laws::{law_closing, law_step};
 use crate::open_box::OpenBox;
 use box_rules::keeps_sign;
 use gas_model::{Ends, Problem, Var};

@@ -1,10 +1,14 @@
 -- A step by the law of an arc keeps every point, over any denominator, and a closing has none.
 use Rattle.std.proofs.Common.{subst, ℤ, pos, ◌*ℤ◌, ◌≤ℤ◌, ◌<ℤ◌, Bool, true, false, IsTrue}
 use Rattle.integer_laws.proofs.Ring.{mul_comm, mul_pos}
-use Rattle.gas_model.specs.Laws.{LawForm, meets_form}
+use Rattle.gas_model.specs.declared.law_forms.LawForm.{LawForm}
+use Rattle.gas_model.specs.Laws.{meets_form}
 use Rattle.gas_model.specs.Boxes.{IsBetween}
 use Rattle.tree_cert.specs.declared.line.Rule.{Rule}
-use Rattle.tree_rules.specs.ArcRules.{ArcEnds, ArcVar, OfFlow, OfFrom, OfTo, arc_step, arc_closing}
+use Rattle.tree_rules.specs.declared.arc_vars.ArcEnds.{ArcEnds}
+use Rattle.tree_rules.specs.declared.arc_vars.ArcVar.{ArcVar}
+use Rattle.tree_rules.specs.declared.arc_vars.ArcVar.TheVariants.{OfFlow, OfFrom, OfTo}
+use Rattle.tree_rules.specs.ArcRules.{arc_step, arc_closing}
 use Rattle.tree_rules.proofs.UnitSound.{IsForm, Inside, Beyond, value_of, step_beyond, closing_none}
 use Rattle.tree_rules.proofs.Scaled.{scaled, meets_up, step_up, closing_up}
 

@@ -2,6 +2,7 @@
 use Rattle.std.proofs.Common.{◌≡◌, ◌⊎◌, inl, inr, sym, ap, ◌∙◌, arith, ℤ, pos, ◌-ℤ◌, ◌*ℤ◌, neg_ℤ, ◌≤ℤ◌, ◌<ℤ◌, Bool, true, false, cond, int_le, IsTrue}
 use Rattle.integer_laws.proofs.Ring.{linear, mul_add, mul_neg, mul_assoc, mul_comm, mul_left_comm, mul_sub, mul_nonneg, mul_le_left, mul_lt_left, le_or_lt, square_nonneg, square_le, square_lt, mul_mul_comm, neg_mul, mul_pos, mul_zero, le_scale, le_of_square}
 use Rattle.gas_model.specs.Curves.{square, curve, excess, at_most, at_least}
+use Rattle.gas_model.proofs.CurveFacts.{curve_forward, curve_back}
 
 -- ---- squares
 pub square_scale : (k a : ℤ) → square (k *ℤ a) ≡ square k *ℤ square a
@@ -13,13 +14,7 @@ square_neg a = simp (mul_neg, neg_mul) (omega (arith, linear))
 pub square_pos : (k : ℤ) → pos 0 <ℤ k → pos 0 <ℤ square k
 square_pos k h = mul_pos k k h h
 
--- ---- curves, by the sign of the flow
-pub curve_forward : (f g q : ℤ) → pos 0 ≤ℤ q → curve f g q ≡ f *ℤ square q
-curve_forward f g q h = let t : int_le (pos 0) q ≡ true = omega (arith, linear) in ap (λ (b : Bool). cond b (f *ℤ square q) (neg_ℤ (g *ℤ square q))) t
-
-pub curve_back : (f g q : ℤ) → q <ℤ pos 0 → curve f g q ≡ neg_ℤ (g *ℤ square q)
-curve_back f g q h = let t : int_le (pos 0) q ≡ false = omega (arith, linear) in ap (λ (b : Bool). cond b (f *ℤ square q) (neg_ℤ (g *ℤ square q))) t
-
+-- ---- curves
 -- a greater flow has a greater drop
 pub curve_lt : (f g a b : ℤ) → pos 1 ≤ℤ f → pos 1 ≤ℤ g → a <ℤ b → curve f g a <ℤ curve f g b
 curve_lt f g a b p r h =

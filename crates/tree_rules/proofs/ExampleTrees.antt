@@ -1,7 +1,7 @@
 -- The trees of the examples.
 use Rattle.std.proofs.Common.{ℤ, pos, [], ◌∷◌, true, false}
-use Rattle.gas_model.specs.declared.rows.ArcState.TheVariants.{Shut, Active, Bypass}
-use Rattle.gas_model.specs.declared.rows.Var.TheVariants.{Square}
+use Rattle.base_types.specs.declared.states.ArcState.TheVariants.{Shut, Active, Bypass}
+use Rattle.base_types.specs.declared.variables.Var.TheVariants.{Square}
 use Rattle.tree_cert.specs.declared.line.Rule.TheVariants as rules
 use Rattle.tree_cert.specs.declared.line.Step.{Step}
 use Rattle.tree_cert.specs.declared.line.Closing.{Closing}

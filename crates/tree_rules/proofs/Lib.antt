@@ -12,3 +12,4 @@ pub mod ExampleTrees
 pub mod Loosening
 pub mod RootLaws
 pub mod SameHeads
+pub mod SameVars

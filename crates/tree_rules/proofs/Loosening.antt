@@ -4,19 +4,24 @@ use Rattle.std.specs.Option.{option_map_or}
 use Rattle.std.proofs.lemmas.Bool.{and_parts, and_from}
 use Rattle.integer_laws.proofs.Ring.{linear, mul_le_left, mul_pos, square_nonneg}
 use Rattle.gas_model.specs.declared.rows.ArcRow.{ArcRow}
-use Rattle.gas_model.specs.declared.rows.Drag.{Drag}
+use Rattle.gas_model.specs.declared.law_forms.PipeLaw.{PipeLaw}
 use Rattle.gas_model.specs.declared.rows.NodeRow.{NodeRow}
-use Rattle.gas_model.specs.declared.rows.Var.{Var}
-use Rattle.gas_model.specs.declared.rows.Var.TheVariants.{Flow, Square}
+use Rattle.base_types.specs.declared.variables.Var.{Var}
+use Rattle.base_types.specs.declared.variables.Var.TheVariants.{Flow, Square}
 use Rattle.gas_model.specs.Rows.{Network}
 use Rattle.gas_model.specs.Curves.{square, at_most, at_least}
-use Rattle.gas_model.specs.Laws.{LawForm, drags, equals, shuts, loses, reduces, raises, form_of}
+use Rattle.gas_model.specs.declared.law_forms.LawForm.{LawForm}
+use Rattle.gas_model.specs.declared.law_forms.LawForm.TheVariants.{Drags, Equals, Shuts, Loses, Reduces, Raises}
+use Rattle.gas_model.specs.Laws.{form_of}
 use Rattle.gas_model.specs.Choices.{fixed_state}
 use Rattle.gas_model.specs.Boxes.{is_var}
 use Rattle.gas_model.specs.Within.{IsWithin}
 use Rattle.tree_cert.specs.declared.line.Rule.{Rule}
 use Rattle.tree_cert.specs.declared.line.Rule.TheVariants.{Balance, Pipe, Equal, Zero, Way, Inner, Fall, Order, Rise, Ratio, Sign, Reach, Along, Drop}
-use Rattle.tree_rules.specs.ArcRules.{ArcEnds, ArcVar, OfFlow, OfFrom, OfTo, pipe_step, equal_step, zero_step, way_step, inner_step, fall_step, order_step, rise_step, ratio_step, sign_step, reach_step, along_step, drop_step, arc_step}
+use Rattle.tree_rules.specs.declared.arc_vars.ArcEnds.{ArcEnds}
+use Rattle.tree_rules.specs.declared.arc_vars.ArcVar.{ArcVar}
+use Rattle.tree_rules.specs.declared.arc_vars.ArcVar.TheVariants.{OfFlow, OfFrom, OfTo}
+use Rattle.tree_rules.specs.ArcRules.{pipe_step, equal_step, zero_step, way_step, inner_step, fall_step, order_step, rise_step, ratio_step, sign_step, reach_step, along_step, drop_step, arc_step}
 use Rattle.tree_rules.specs.NodeRules.{leaving_step, entering_step}
 use Rattle.tree_rules.specs.Rules.{PartBox, flow_lo, flow_hi, arc_ends, arc_var, fixed_form, form_step, row_step, law_step, flow_step, node_step, balance_step, rule_holds, is_allowed}
 use Rattle.tree_rules.specs.Looser.{IsNoTighter, RulesLoosen, StepsLoosen}
@@ -25,12 +30,12 @@ use Rattle.tree_rules.proofs.UnitSound.{IsForm, IsDrag}
 use Rattle.tree_rules.proofs.StepSound.{row_form, some_is, map_is}
 
 -- ---- the rules of one arc
-gap_le : (law : Drag) (K a b : ℤ) → IsDrag law → pos 0 <ℤ K → a ≤ℤ b → (law.den *ℤ K *ℤ a) ≤ℤ (law.den *ℤ K *ℤ b)
-gap_le law K a b i k h = mul_le_left (law.den *ℤ K) a b (omega (arith, linear, mul_pos law.den K (omega (arith, linear, i.den)) k)) h
+gap_le : (law : PipeLaw) (K a b : ℤ) → IsDrag law.drag → pos 0 <ℤ K → a ≤ℤ b → (law.drag.den *ℤ K *ℤ a) ≤ℤ (law.drag.den *ℤ K *ℤ b)
+gap_le law K a b i k h = mul_le_left (law.drag.den *ℤ K) a b (omega (arith, linear, mul_pos law.drag.den K (omega (arith, linear, i.den)) k)) h
 
-pipe_looser : (law : Drag) (K : ℤ) (e : ArcEnds) (x : ArcVar) (low : Bool) (B C : ℤ) → IsDrag law → pos 0 <ℤ K → IsNoTighter low B C → IsTrue (pipe_step law K e x low C) → IsTrue (pipe_step law K e x low B)
-pipe_looser law K e OfFlow true B C i k h t = omega (arith, linear, curve_le law.hi law.lo B C i.hi i.lo h)
-pipe_looser law K e OfFlow false B C i k h t = omega (arith, linear, curve_le law.lo law.hi C B i.lo i.hi h)
+pipe_looser : (law : PipeLaw) (K : ℤ) (e : ArcEnds) (x : ArcVar) (low : Bool) (B C : ℤ) → IsDrag law.drag → pos 0 <ℤ K → IsNoTighter low B C → IsTrue (pipe_step law K e x low C) → IsTrue (pipe_step law K e x low B)
+pipe_looser law K e OfFlow true B C i k h t = omega (arith, linear, curve_le law.drag.hi law.drag.lo B C i.hi i.lo h)
+pipe_looser law K e OfFlow false B C i k h t = omega (arith, linear, curve_le law.drag.lo law.drag.hi C B i.lo i.hi h)
 pipe_looser law K e OfFrom true B C i k h t = omega (arith, linear, gap_le law K (B -ℤ e.v.lo) (C -ℤ e.v.lo) i k (omega (arith, linear)))
 pipe_looser law K e OfFrom false B C i k h t = omega (arith, linear, gap_le law K (C -ℤ e.v.hi) (B -ℤ e.v.hi) i k (omega (arith, linear)))
 pipe_looser law K e OfTo true B C i k h t = omega (arith, linear, gap_le law K (e.u.lo -ℤ C) (e.u.lo -ℤ B) i k (omega (arith, linear)))
@@ -134,21 +139,21 @@ drop_looser m K e OfTo true B C k h t = and_looser (int_le e.q.hi (negsuc 0)) (a
 drop_looser m K e OfTo false B C k h t = and_looser (int_le (pos 1) e.q.lo) (at_most K e.u.hi C m) (int_le (pos 1) e.q.lo) (at_most K e.u.hi B m) (λ s. s) (right_up K B C e.u.hi m k h) t
 
 pub arc_looser : (rule : Rule) (form : LawForm) (K : ℤ) (e : ArcEnds) (x : ArcVar) (low : Bool) (B C : ℤ) → IsForm form → pos 0 <ℤ K → IsNoTighter low B C → IsTrue (arc_step rule form K e x low C) → IsTrue (arc_step rule form K e x low B)
-arc_looser Pipe (drags law) K e x low B C i k h t = pipe_looser law K e x low B C i k h t
-arc_looser Equal equals K e x low B C i k h t = equal_looser e x low B C h t
-arc_looser Zero shuts K e x low B C i k h t = zero_looser x low B C h t
-arc_looser Way (reduces in_min out_max m M) K e x low B C i k h t = way_looser x low B C h t
-arc_looser Way (raises in_min out_max num den M) K e x low B C i k h t = way_looser x low B C h t
-arc_looser Inner (reduces in_min out_max m M) K e x low B C i k h t = inner_looser in_min out_max K x low B C h t
-arc_looser Inner (raises in_min out_max num den M) K e x low B C i k h t = inner_looser in_min out_max K x low B C h t
-arc_looser Fall (reduces in_min out_max m M) K e x low B C i k h t = fall_looser m M K e x low B C (omega (arith, linear)) h t
-arc_looser Order (raises in_min out_max num den M) K e x low B C i k h t = order_looser e x low B C h t
-arc_looser Rise (raises in_min out_max num den M) K e x low B C i k h t = rise_looser M K e x low B C (omega (arith, linear)) h t
-arc_looser Ratio (raises in_min out_max num den M) K e x low B C i k h t = ratio_looser num den e x low B C h t
-arc_looser Sign (loses m M) K e x low B C i k h t = sign_looser m K e x low B C h t
-arc_looser Reach (loses m M) K e x low B C i k h t = reach_looser M K e x low B C (omega (arith, linear)) h t
-arc_looser Along (loses m M) K e x low B C i k h t = along_looser e x low B C h t
-arc_looser Drop (loses m M) K e x low B C i k h t = drop_looser m K e x low B C (omega (arith, linear)) h t
+arc_looser Pipe (Drags law) K e x low B C i k h t = pipe_looser law K e x low B C i k h t
+arc_looser Equal Equals K e x low B C i k h t = equal_looser e x low B C h t
+arc_looser Zero Shuts K e x low B C i k h t = zero_looser x low B C h t
+arc_looser Way (Reduces in_min out_max m M) K e x low B C i k h t = way_looser x low B C h t
+arc_looser Way (Raises in_min out_max num den M) K e x low B C i k h t = way_looser x low B C h t
+arc_looser Inner (Reduces in_min out_max m M) K e x low B C i k h t = inner_looser in_min out_max K x low B C h t
+arc_looser Inner (Raises in_min out_max num den M) K e x low B C i k h t = inner_looser in_min out_max K x low B C h t
+arc_looser Fall (Reduces in_min out_max m M) K e x low B C i k h t = fall_looser m M K e x low B C (omega (arith, linear)) h t
+arc_looser Order (Raises in_min out_max num den M) K e x low B C i k h t = order_looser e x low B C h t
+arc_looser Rise (Raises in_min out_max num den M) K e x low B C i k h t = rise_looser M K e x low B C (omega (arith, linear)) h t
+arc_looser Ratio (Raises in_min out_max num den M) K e x low B C i k h t = ratio_looser num den e x low B C h t
+arc_looser Sign (Loses m M) K e x low B C i k h t = sign_looser m K e x low B C h t
+arc_looser Reach (Loses m M) K e x low B C i k h t = reach_looser M K e x low B C (omega (arith, linear)) h t
+arc_looser Along (Loses m M) K e x low B C i k h t = along_looser e x low B C h t
+arc_looser Drop (Loses m M) K e x low B C i k h t = drop_looser m K e x low B C (omega (arith, linear)) h t
 arc_looser rule form K e x low B C i k h t = absurd cc
 
 -- ---- the rule of a node

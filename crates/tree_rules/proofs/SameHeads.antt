@@ -3,28 +3,19 @@ use Rattle.std.proofs.Common.{◌≡◌, ℕ, refl, ap, sym, ◌∙◌, arith, B
 use Rattle.std.specs.Ordering.{int_eq}
 use Rattle.std.proofs.lemmas.Bool.Decides.{nat_tests, Decides-int_eq}
 use Rattle.std.proofs.lemmas.Bool.{and_parts, and_from}
-use Rattle.gas_model.specs.declared.rows.ArcState.{ArcState}
-use Rattle.gas_model.specs.declared.rows.ArcState.TheVariants.{Opened, Shut, Active, Bypass}
-use Rattle.gas_model.specs.declared.rows.Var.{Var}
-use Rattle.gas_model.specs.declared.rows.Var.TheVariants.{Flow, Square}
+use Rattle.base_types.specs.declared.states.ArcState.{ArcState}
+use Rattle.base_types.specs.declared.states.ArcState.TheVariants.{Opened, Shut, Active, Bypass}
+use Rattle.base_types.specs.declared.variables.Var.{Var}
+use Rattle.base_types.specs.declared.variables.Var.TheVariants.{Flow, Square}
 use Rattle.tree_cert.specs.declared.line.Head.{Head}
 use Rattle.tree_cert.specs.declared.line.Head.TheVariants.{Take, State, Half}
 use Rattle.tree_rules.specs.Branches.{same_var, same_state, same_end, same_head}
 use Rattle.tree_rules.specs.Theorems.{HeadsAreToldApart}
 use Rattle.tree_rules.proofs.UnitSound.{eq_says}
+use Rattle.tree_rules.proofs.SameVars.{var_is, var_self}
 
 same_place : (i a : ℕ) → IsTrue (i == a) → i ≡ a
 same_place i a t = grind (arith, nat_tests)
-
-var_says : (v w : Var) → IsTrue (same_var v w) → v ≡ w
-var_says (Flow a) (Flow i) t = ap Flow (same_place a i t)
-var_says (Flow a) (Square m) t = absurd cc
-var_says (Square n) (Flow i) t = absurd cc
-var_says (Square n) (Square m) t = ap Square (same_place n m t)
-
-var_self : (v : Var) → IsTrue (same_var v v)
-var_self (Flow a) = eq-eqb a a refl
-var_self (Square n) = eq-eqb n n refl
 
 state_says : (s t : ArcState) → IsTrue (same_state s t) → s ≡ t
 state_says Opened Opened h = refl
@@ -63,7 +54,7 @@ head_says (State a s) (State i r) t =
 head_says (Half v low C) (Half w end B) t =
     let b = and_parts (same_var v w && same_end low end) (int_eq C B) t in
     let c = and_parts (same_var v w) (same_end low end) b.0 in
-    let p = var_says v w c.0 in
+    let p = var_is v w c.0 in
     let q = end_says low end c.1 in
     let r = eq_says C B b.1 in
     cc

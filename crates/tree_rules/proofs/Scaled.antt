@@ -4,13 +4,18 @@ use Rattle.std.specs.Ordering.{int_eq}
 use Rattle.std.proofs.lemmas.Bool.Decides.{Decides-int_eq}
 use Rattle.std.proofs.lemmas.Bool.{and_parts, and_from}
 use Rattle.integer_laws.proofs.Ring.{linear, mul_assoc, mul_left_comm, mul_le_left, mul_lt_left, mul_zero, mul_neg, mul_one, le_scale}
-use Rattle.gas_model.specs.declared.rows.Drag.{Drag}
+use Rattle.gas_model.specs.declared.law_forms.PipeLaw.{PipeLaw}
 use Rattle.gas_model.specs.declared.rows.Ends.{Ends}
 use Rattle.gas_model.specs.Curves.{square, curve, drop_low, drop_high, at_most, at_least, meets_resistance, falls_between, meets_loss, keeps_inner, keeps_ratio, rises_within}
-use Rattle.gas_model.specs.Laws.{LawForm, drags, equals, shuts, loses, reduces, raises, never, meets_form}
+use Rattle.gas_model.specs.declared.law_forms.LawForm.{LawForm}
+use Rattle.gas_model.specs.declared.law_forms.LawForm.TheVariants.{Drags, Equals, Shuts, Loses, Reduces, Raises, Never}
+use Rattle.gas_model.specs.Laws.{meets_form}
 use Rattle.tree_cert.specs.declared.line.Rule.{Rule}
 use Rattle.tree_cert.specs.declared.line.Rule.TheVariants.{Pipe, Equal, Zero, Way, Inner, Fall, Order, Rise, Ratio, Sign, Reach, Along, Drop}
-use Rattle.tree_rules.specs.ArcRules.{ArcEnds, ArcVar, OfFlow, OfFrom, OfTo, pipe_step, equal_step, zero_step, way_step, inner_step, fall_step, order_step, rise_step, ratio_step, sign_step, reach_step, along_step, drop_step, arc_step, pipe_closing, drop_closing, arc_closing}
+use Rattle.tree_rules.specs.declared.arc_vars.ArcEnds.{ArcEnds}
+use Rattle.tree_rules.specs.declared.arc_vars.ArcVar.{ArcVar}
+use Rattle.tree_rules.specs.declared.arc_vars.ArcVar.TheVariants.{OfFlow, OfFrom, OfTo}
+use Rattle.tree_rules.specs.ArcRules.{pipe_step, equal_step, zero_step, way_step, inner_step, fall_step, order_step, rise_step, ratio_step, sign_step, reach_step, along_step, drop_step, arc_step, pipe_closing, drop_closing, arc_closing}
 use Rattle.tree_rules.proofs.CurveLaws.{square_pos, curve_scale, gap_scale, at_least_scale, at_most_scale, sign_scale, sign_scale_back}
 use Rattle.tree_rules.proofs.UnitSound.{either}
 
@@ -123,34 +128,34 @@ loss_up m M k d q u v h t =
     (falls_between m M d u v) (falls_between m M d v u) (int_eq u v) (falls_between m M (k *ℤ d) (k *ℤ u) (k *ℤ v)) (falls_between m M (k *ℤ d) (k *ℤ v) (k *ℤ u)) (int_eq (k *ℤ u) (k *ℤ v))
     (sym (sign_up k q h)) (sym (sign_back k q h)) (falls_up m M k d u v h) (falls_up m M k d v u h) (eq_up k u v) t
 
-resistance_up : (law : Drag) (k d q u v : ℤ) → pos 0 <ℤ k → IsTrue (meets_resistance law d q u v) → IsTrue (meets_resistance law (k *ℤ d) (k *ℤ q) (k *ℤ u) (k *ℤ v))
+resistance_up : (law : PipeLaw) (k d q u v : ℤ) → pos 0 <ℤ k → IsTrue (meets_resistance law d q u v) → IsTrue (meets_resistance law (k *ℤ d) (k *ℤ q) (k *ℤ u) (k *ℤ v))
 resistance_up law k d q u v h t =
-    and_up (int_le (drop_low law q) (law.den *ℤ d *ℤ (u -ℤ v))) (int_le (law.den *ℤ d *ℤ (u -ℤ v)) (drop_high law q)) (int_le (drop_low law (k *ℤ q)) (law.den *ℤ (k *ℤ d) *ℤ (k *ℤ u -ℤ k *ℤ v))) (int_le (law.den *ℤ (k *ℤ d) *ℤ (k *ℤ u -ℤ k *ℤ v)) (drop_high law (k *ℤ q)))
-    (gap_up k law.lo law.hi law.den d q u v h) (gap_down k law.hi law.lo law.den d q u v h) t
+    and_up (int_le (drop_low law.drag q) (law.drag.den *ℤ d *ℤ (u -ℤ v))) (int_le (law.drag.den *ℤ d *ℤ (u -ℤ v)) (drop_high law.drag q)) (int_le (drop_low law.drag (k *ℤ q)) (law.drag.den *ℤ (k *ℤ d) *ℤ (k *ℤ u -ℤ k *ℤ v))) (int_le (law.drag.den *ℤ (k *ℤ d) *ℤ (k *ℤ u -ℤ k *ℤ v)) (drop_high law.drag (k *ℤ q)))
+    (gap_up k law.drag.lo law.drag.hi law.drag.den d q u v h) (gap_down k law.drag.hi law.drag.lo law.drag.den d q u v h) t
 
 pub meets_up : (form : LawForm) (k d q u v : ℤ) → pos 0 <ℤ k → IsTrue (meets_form form d q u v) → IsTrue (meets_form form (k *ℤ d) (k *ℤ q) (k *ℤ u) (k *ℤ v))
-meets_up (drags law) k d q u v h t = resistance_up law k d q u v h t
-meets_up equals k d q u v h t = eq_up k u v t
-meets_up shuts k d q u v h t = eq_zero_up k q t
-meets_up (loses m M) k d q u v h t = loss_up m M k d q u v h t
-meets_up (reduces in_min out_max m M) k d q u v h t =
+meets_up (Drags law) k d q u v h t = resistance_up law k d q u v h t
+meets_up Equals k d q u v h t = eq_up k u v t
+meets_up Shuts k d q u v h t = eq_zero_up k q t
+meets_up (Loses m M) k d q u v h t = loss_up m M k d q u v h t
+meets_up (Reduces in_min out_max m M) k d q u v h t =
     and_up (int_le (pos 0) q && falls_between m M d u v) (keeps_inner in_min out_max d u v) (int_le (pos 0) (k *ℤ q) && falls_between m M (k *ℤ d) (k *ℤ u) (k *ℤ v)) (keeps_inner in_min out_max (k *ℤ d) (k *ℤ u) (k *ℤ v))
     (and_up (int_le (pos 0) q) (falls_between m M d u v) (int_le (pos 0) (k *ℤ q)) (falls_between m M (k *ℤ d) (k *ℤ u) (k *ℤ v)) (from_zero k q h) (falls_up m M k d u v h))
     (inner_up in_min out_max k d u v h) t
-meets_up (raises in_min out_max num den M) k d q u v h t =
+meets_up (Raises in_min out_max num den M) k d q u v h t =
     and_up (int_le (pos 0) q && rises_within num den M d u v) (keeps_inner in_min out_max d u v) (int_le (pos 0) (k *ℤ q) && rises_within num den M (k *ℤ d) (k *ℤ u) (k *ℤ v)) (keeps_inner in_min out_max (k *ℤ d) (k *ℤ u) (k *ℤ v))
     (and_up (int_le (pos 0) q) (rises_within num den M d u v) (int_le (pos 0) (k *ℤ q)) (rises_within num den M (k *ℤ d) (k *ℤ u) (k *ℤ v)) (from_zero k q h) (rises_up num den M k d u v h))
     (inner_up in_min out_max k d u v h) t
-meets_up never k d q u v h t = absurd cc
+meets_up Never k d q u v h t = absurd cc
 
 -- ---- the conditions of steps
-pipe_up : (law : Drag) (k K : ℤ) (e : ArcEnds) (x : ArcVar) (low : Bool) (C : ℤ) → pos 0 <ℤ k → IsTrue (pipe_step law K e x low C) → IsTrue (pipe_step law (k *ℤ K) (scaled k e) x low (k *ℤ C))
-pipe_up law k K e OfFlow true C h t = gap_up k law.hi law.lo law.den K C e.u.lo e.v.hi h t
-pipe_up law k K e OfFlow false C h t = gap_down k law.lo law.hi law.den K C e.u.hi e.v.lo h t
-pipe_up law k K e OfFrom true C h t = gap_down k law.lo law.hi law.den K e.q.lo C e.v.lo h t
-pipe_up law k K e OfFrom false C h t = gap_up k law.hi law.lo law.den K e.q.hi C e.v.hi h t
-pipe_up law k K e OfTo true C h t = gap_up k law.hi law.lo law.den K e.q.hi e.u.lo C h t
-pipe_up law k K e OfTo false C h t = gap_down k law.lo law.hi law.den K e.q.lo e.u.hi C h t
+pipe_up : (law : PipeLaw) (k K : ℤ) (e : ArcEnds) (x : ArcVar) (low : Bool) (C : ℤ) → pos 0 <ℤ k → IsTrue (pipe_step law K e x low C) → IsTrue (pipe_step law (k *ℤ K) (scaled k e) x low (k *ℤ C))
+pipe_up law k K e OfFlow true C h t = gap_up k law.drag.hi law.drag.lo law.drag.den K C e.u.lo e.v.hi h t
+pipe_up law k K e OfFlow false C h t = gap_down k law.drag.lo law.drag.hi law.drag.den K C e.u.hi e.v.lo h t
+pipe_up law k K e OfFrom true C h t = gap_down k law.drag.lo law.drag.hi law.drag.den K e.q.lo C e.v.lo h t
+pipe_up law k K e OfFrom false C h t = gap_up k law.drag.hi law.drag.lo law.drag.den K e.q.hi C e.v.hi h t
+pipe_up law k K e OfTo true C h t = gap_up k law.drag.hi law.drag.lo law.drag.den K e.q.hi e.u.lo C h t
+pipe_up law k K e OfTo false C h t = gap_down k law.drag.lo law.drag.hi law.drag.den K e.q.lo e.u.hi C h t
 
 equal_up : (k : ℤ) (e : ArcEnds) (x : ArcVar) (low : Bool) (C : ℤ) → pos 0 <ℤ k → IsTrue (equal_step e x low C) → IsTrue (equal_step (scaled k e) x low (k *ℤ C))
 equal_up k e OfFlow low C h t = absurd cc
@@ -234,26 +239,26 @@ drop_up m k K e OfTo true C h t = and_up _ _ _ _ (to_minus_one k e.q.hi h) (most
 drop_up m k K e OfTo false C h t = and_up _ _ _ _ (from_one k e.q.lo h) (most_up k K e.u.hi C m h) t
 
 pub step_up : (rule : Rule) (form : LawForm) (k K : ℤ) (e : ArcEnds) (x : ArcVar) (low : Bool) (C : ℤ) → pos 0 <ℤ k → IsTrue (arc_step rule form K e x low C) → IsTrue (arc_step rule form (k *ℤ K) (scaled k e) x low (k *ℤ C))
-step_up Pipe (drags law) k K e x low C h t = pipe_up law k K e x low C h t
-step_up Equal equals k K e x low C h t = equal_up k e x low C h t
-step_up Zero shuts k K e x low C h t = zero_up k x low C h t
-step_up Way (reduces in_min out_max m M) k K e x low C h t = way_up k x low C h t
-step_up Way (raises in_min out_max num den M) k K e x low C h t = way_up k x low C h t
-step_up Inner (reduces in_min out_max m M) k K e x low C h t = inner_step_up in_min out_max k K x low C h t
-step_up Inner (raises in_min out_max num den M) k K e x low C h t = inner_step_up in_min out_max k K x low C h t
-step_up Fall (reduces in_min out_max m M) k K e x low C h t = fall_up m M k K e x low C h t
-step_up Order (raises in_min out_max num den M) k K e x low C h t = order_up k e x low C h t
-step_up Rise (raises in_min out_max num den M) k K e x low C h t = rise_up M k K e x low C h t
-step_up Ratio (raises in_min out_max num den M) k K e x low C h t = ratio_up num den k e x low C h t
-step_up Sign (loses m M) k K e x low C h t = sign_step_up m k K e x low C h t
-step_up Reach (loses m M) k K e x low C h t = reach_up M k K e x low C h t
-step_up Along (loses m M) k K e x low C h t = along_up k e x low C h t
-step_up Drop (loses m M) k K e x low C h t = drop_up m k K e x low C h t
+step_up Pipe (Drags law) k K e x low C h t = pipe_up law k K e x low C h t
+step_up Equal Equals k K e x low C h t = equal_up k e x low C h t
+step_up Zero Shuts k K e x low C h t = zero_up k x low C h t
+step_up Way (Reduces in_min out_max m M) k K e x low C h t = way_up k x low C h t
+step_up Way (Raises in_min out_max num den M) k K e x low C h t = way_up k x low C h t
+step_up Inner (Reduces in_min out_max m M) k K e x low C h t = inner_step_up in_min out_max k K x low C h t
+step_up Inner (Raises in_min out_max num den M) k K e x low C h t = inner_step_up in_min out_max k K x low C h t
+step_up Fall (Reduces in_min out_max m M) k K e x low C h t = fall_up m M k K e x low C h t
+step_up Order (Raises in_min out_max num den M) k K e x low C h t = order_up k e x low C h t
+step_up Rise (Raises in_min out_max num den M) k K e x low C h t = rise_up M k K e x low C h t
+step_up Ratio (Raises in_min out_max num den M) k K e x low C h t = ratio_up num den k e x low C h t
+step_up Sign (Loses m M) k K e x low C h t = sign_step_up m k K e x low C h t
+step_up Reach (Loses m M) k K e x low C h t = reach_up M k K e x low C h t
+step_up Along (Loses m M) k K e x low C h t = along_up k e x low C h t
+step_up Drop (Loses m M) k K e x low C h t = drop_up m k K e x low C h t
 step_up rule form k K e x low C h t = absurd cc
 
 -- ---- closings
-pipe_closing_up : (law : Drag) (k K : ℤ) (e : ArcEnds) → pos 0 <ℤ k → IsTrue (pipe_closing law K e) → IsTrue (pipe_closing law (k *ℤ K) (scaled k e))
-pipe_closing_up law k K e h t = or_up _ _ _ _ (gap_below k law.lo law.hi law.den K e.q.lo e.u.hi e.v.lo h) (gap_above k law.hi law.lo law.den K e.q.hi e.u.lo e.v.hi h) t
+pipe_closing_up : (law : PipeLaw) (k K : ℤ) (e : ArcEnds) → pos 0 <ℤ k → IsTrue (pipe_closing law K e) → IsTrue (pipe_closing law (k *ℤ K) (scaled k e))
+pipe_closing_up law k K e h t = or_up _ _ _ _ (gap_below k law.drag.lo law.drag.hi law.drag.den K e.q.lo e.u.hi e.v.lo h) (gap_above k law.drag.hi law.drag.lo law.drag.den K e.q.hi e.u.lo e.v.hi h) t
 
 drop_closing_up : (m k K : ℤ) (e : ArcEnds) → pos 0 <ℤ k → IsTrue (drop_closing m K e) → IsTrue (drop_closing m (k *ℤ K) (scaled k e))
 drop_closing_up m k K e h t =
@@ -262,10 +267,10 @@ drop_closing_up m k K e h t =
     (and_up (int_le e.q.hi (negsuc 0)) (not (at_least K e.v.hi e.u.lo m)) _ _ (to_minus_one k e.q.hi h) (not_least_up k K e.v.hi e.u.lo m h)) t
 
 pub closing_up : (rule : Rule) (form : LawForm) (k K : ℤ) (e : ArcEnds) → pos 0 <ℤ k → IsTrue (arc_closing rule form K e) → IsTrue (arc_closing rule form (k *ℤ K) (scaled k e))
-closing_up Pipe (drags law) k K e h t = pipe_closing_up law k K e h t
-closing_up Fall (reduces in_min out_max m M) k K e h t = or_up _ _ _ _ (not_least_up k K e.u.hi e.v.lo m h) (not_most_up k K e.u.lo e.v.hi M h) t
-closing_up Rise (raises in_min out_max num den M) k K e h t = not_most_up k K e.v.lo e.u.hi M h t
-closing_up Ratio (raises in_min out_max num den M) k K e h t = products_lt_up k (square num) (square den) e.u.hi e.v.lo h t
-closing_up Reach (loses m M) k K e h t = or_up _ _ _ _ (not_most_up k K e.u.lo e.v.hi M h) (not_most_up k K e.v.lo e.u.hi M h) t
-closing_up Drop (loses m M) k K e h t = drop_closing_up m k K e h t
+closing_up Pipe (Drags law) k K e h t = pipe_closing_up law k K e h t
+closing_up Fall (Reduces in_min out_max m M) k K e h t = or_up _ _ _ _ (not_least_up k K e.u.hi e.v.lo m h) (not_most_up k K e.u.lo e.v.hi M h) t
+closing_up Rise (Raises in_min out_max num den M) k K e h t = not_most_up k K e.v.lo e.u.hi M h t
+closing_up Ratio (Raises in_min out_max num den M) k K e h t = products_lt_up k (square num) (square den) e.u.hi e.v.lo h t
+closing_up Reach (Loses m M) k K e h t = or_up _ _ _ _ (not_most_up k K e.u.lo e.v.hi M h) (not_most_up k K e.v.lo e.u.hi M h) t
+closing_up Drop (Loses m M) k K e h t = drop_closing_up m k K e h t
 closing_up rule form k K e h t = absurd cc

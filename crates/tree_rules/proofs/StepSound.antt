@@ -8,15 +8,18 @@ use Rattle.integer_laws.proofs.Ring.{linear, mul_lt_left}
 use Rattle.gas_model.specs.declared.rows.ArcKind.{ArcKind}
 use Rattle.gas_model.specs.declared.rows.ArcKind.TheVariants.{Pipe, Short, Resist, Loss, Valve, Control, Station}
 use Rattle.gas_model.specs.declared.rows.ArcRow.{ArcRow}
-use Rattle.gas_model.specs.declared.rows.ArcState.{ArcState}
-use Rattle.gas_model.specs.declared.rows.ArcState.TheVariants.{Opened, Shut, Active, Bypass}
+use Rattle.base_types.specs.declared.states.ArcState.{ArcState}
+use Rattle.base_types.specs.declared.states.ArcState.TheVariants.{Opened, Shut, Active, Bypass}
 use Rattle.gas_model.specs.declared.rows.Drag.{Drag}
 use Rattle.gas_model.specs.declared.rows.Ends.{Ends}
-use Rattle.gas_model.specs.declared.rows.Var.{Var}
-use Rattle.gas_model.specs.declared.rows.Var.TheVariants.{Flow, Square}
-use Rattle.gas_model.specs.Limits.{is_drag_part, is_drag_within, is_kind_within, are_station_pressures, is_ratio_part, is_ratio_within, is_id, is_flow}
+use Rattle.base_types.specs.declared.variables.Var.{Var}
+use Rattle.base_types.specs.declared.variables.Var.TheVariants.{Flow, Square}
+use Rattle.base_types.specs.Numbers.{is_drag_part, is_ratio_part, is_flow}
+use Rattle.gas_model.specs.Limits.{is_drag_within, is_kind_within, are_station_pressures, is_ratio_within}
+use Rattle.base_types.specs.Ids.{is_id}
 use Rattle.gas_model.specs.Rows.{Network}
-use Rattle.gas_model.specs.Laws.{LawForm, form_of, meets_form}
+use Rattle.gas_model.specs.declared.law_forms.LawForm.{LawForm}
+use Rattle.gas_model.specs.Laws.{form_of, meets_form}
 use Rattle.gas_model.specs.Points.{Point, state_at, meets_arc}
 use Rattle.gas_model.specs.Choices.{fixed_state}
 use Rattle.gas_model.proofs.BoxFacts.{in_box, still_fits}
@@ -27,9 +30,12 @@ use Rattle.tree_cert.specs.declared.line.Rule.TheVariants.{Balance}
 use Rattle.tree_cert.specs.declared.line.Step.{Step}
 use Rattle.tree_cert.specs.declared.line.Closing.{Closing}
 use Rattle.tree_cert.specs.declared.line.Closing.TheVariants.{Empty, Cut, At}
-use Rattle.tree_rules.specs.ArcRules.{ArcVar, OfFlow, OfFrom, OfTo, arc_step, arc_closing}
+use Rattle.tree_rules.specs.declared.arc_vars.ArcVar.{ArcVar}
+use Rattle.tree_rules.specs.declared.arc_vars.ArcVar.TheVariants.{OfFlow, OfFrom, OfTo}
+use Rattle.tree_rules.specs.ArcRules.{arc_step, arc_closing}
 use Rattle.tree_rules.specs.NodeRules.{leaving_step, entering_step, balance_closing, are_cut_nodes, crosses, all_arcs, is_unbalanced}
-use Rattle.tree_rules.specs.Rules.{PartBox, flow_lo, flow_hi, arc_ends, arc_var, fixed_form, form_step, row_step, law_step, flow_step, node_step, balance_step, rule_holds, is_allowed, step_holds, stepped, is_shut, cuts, row_closing, closing_at, closing_holds}
+use Rattle.tree_rules.specs.Rules.{PartBox, flow_lo, flow_hi, arc_ends, arc_var, fixed_form, form_step, row_step, law_step, flow_step, node_step, balance_step, rule_holds, is_allowed, step_holds, stepped, cuts, row_closing, closing_at, closing_holds}
+use Rattle.gas_model.specs.Laws.{is_shut}
 use Rattle.tree_rules.specs.Theorems.{IsBoxOf, IsIn, RulesKeepPoints, StepsKeepPoints, ClosingsRefute}
 use Rattle.tree_rules.proofs.UnitSound.{IsForm, IsDrag, IsRatio, value_of, eq_says}
 use Rattle.tree_rules.proofs.ArcSound.{ArcWithin, Keeps, arc_step_keeps, arc_closing_none}

@@ -8,14 +8,14 @@ use Rattle.std.proofs.lemmas.Option.{slice_get_within, slice_get-map, get_or_fro
 use Rattle.std.proofs.lemmas.Bool.{and_parts}
 use Rattle.integer_laws.proofs.Ring.{linear, mul_left_comm, mul_le_left, le_or_lt}
 use Rattle.gas_model.specs.declared.rows.ArcRow.{ArcRow}
-use Rattle.gas_model.specs.declared.rows.ArcState.{ArcState}
+use Rattle.base_types.specs.declared.states.ArcState.{ArcState}
 use Rattle.gas_model.specs.declared.rows.Ends.{Ends}
 use Rattle.gas_model.specs.declared.rows.Group.{Group}
 use Rattle.gas_model.specs.declared.rows.PartState.{PartState}
-use Rattle.gas_model.specs.declared.rows.Var.{Var}
-use Rattle.gas_model.specs.declared.rows.Var.TheVariants.{Flow, Square}
+use Rattle.base_types.specs.declared.variables.Var.{Var}
+use Rattle.base_types.specs.declared.variables.Var.TheVariants.{Flow, Square}
 use Rattle.gas_model.specs.Rows.{Network}
-use Rattle.gas_model.specs.Limits.{between}
+use Rattle.base_types.specs.Numbers.{between}
 use Rattle.gas_model.specs.Choices.{IsListed, allowed_states, fresh_part}
 use Rattle.gas_model.specs.Curves.{square}
 use Rattle.gas_model.specs.Rulings.{is_free, pick_in}
@@ -35,7 +35,7 @@ use Rattle.tree_rules.specs.Theorems.{Agrees, TreesRefuteBoxes, TextsRefute}
 use Rattle.tree_rules.proofs.CutSound.{get_some}
 use Rattle.tree_rules.proofs.States.{IsOneOf, state_of, one_allowed}
 use Rattle.tree_rules.proofs.StepSound.{Stands, Kept, step_keeps, closing_none, end_moved, map_is}
-use Rattle.gas_model.proofs.BoxFacts.{still_fits}
+use Rattle.gas_model.proofs.BoxFacts.{opening_fits, still_fits}
 use Rattle.tree_rules.proofs.Induction.{LoseNothing, tree_leaves_none}
 
 -- ---- options behind tests
@@ -71,9 +71,6 @@ fixed_too part picks states a s h is = record {
 }
 
 -- ---- the opening box
-opening_fits : (K : ℤ) (p : Network) → BoxFits p (opening K p)
-opening_fits K p = record { flows = length-map p.arcs (flow_ends K); squares = length-map p.nodes (square_ends K) }
-
 opened : {A : Type 0} (f : A → Ends) (xs : List A) (i : ℕ) (y : A) → slice_get xs i ≡ Some y → slice_index_or (map f xs) i no_ends ≡ f y
 opened f xs i y e = get_or_from_slice_get (map f xs) i (f y) no_ends (slice_get-map f xs i ∙ ap (option_map f) e)
 

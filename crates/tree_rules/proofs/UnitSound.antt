@@ -5,11 +5,17 @@ use Rattle.std.proofs.lemmas.Bool.Decides.{Decides-int_eq}
 use Rattle.std.proofs.lemmas.Bool.{and_parts}
 use Rattle.integer_laws.proofs.Ring.{linear, mul_le_left, le_or_lt, le_of_mul_left, mul_pos, square_nonneg}
 use Rattle.gas_model.specs.declared.rows.Drag.{Drag}
+use Rattle.gas_model.specs.declared.law_forms.PipeLaw.{PipeLaw}
 use Rattle.gas_model.specs.Curves.{square, drop_low, drop_high, at_most, at_least, meets_resistance, falls_between, meets_loss, keeps_inner, keeps_ratio, rises_within}
-use Rattle.gas_model.specs.Laws.{LawForm, drags, equals, shuts, loses, reduces, raises, meets_form}
+use Rattle.gas_model.specs.declared.law_forms.LawForm.{LawForm}
+use Rattle.gas_model.specs.declared.law_forms.LawForm.TheVariants.{Drags, Equals, Shuts, Loses, Reduces, Raises}
+use Rattle.gas_model.specs.Laws.{meets_form}
 use Rattle.tree_cert.specs.declared.line.Rule.{Rule}
 use Rattle.tree_cert.specs.declared.line.Rule.TheVariants.{Pipe, Equal, Zero, Way, Inner, Fall, Order, Rise, Ratio, Sign, Reach, Along, Drop}
-use Rattle.tree_rules.specs.ArcRules.{ArcEnds, ArcVar, OfFlow, OfFrom, OfTo, pipe_step, equal_step, zero_step, way_step, inner_step, fall_step, order_step, rise_step, ratio_step, sign_step, reach_step, along_step, drop_step, arc_step, pipe_closing, fall_closing, rise_closing, ratio_closing, reach_closing, drop_closing, arc_closing}
+use Rattle.tree_rules.specs.declared.arc_vars.ArcEnds.{ArcEnds}
+use Rattle.tree_rules.specs.declared.arc_vars.ArcVar.{ArcVar}
+use Rattle.tree_rules.specs.declared.arc_vars.ArcVar.TheVariants.{OfFlow, OfFrom, OfTo}
+use Rattle.tree_rules.specs.ArcRules.{pipe_step, equal_step, zero_step, way_step, inner_step, fall_step, order_step, rise_step, ratio_step, sign_step, reach_step, along_step, drop_step, arc_step, pipe_closing, fall_closing, rise_closing, ratio_closing, reach_closing, drop_closing, arc_closing}
 use Rattle.tree_rules.proofs.CurveLaws.{curve_le, le_of_curve, at_least_grow, at_most_grow, at_most-at_least, at_least-at_most, at_least-le, at_most-below, square_pos}
 
 -- ---- what is needed of the numbers of a law
@@ -23,8 +29,8 @@ pub record IsRatio (num den : ℤ) : Type 0 where
   pub lower : pos 1 ≤ℤ den
 
 abbrev pub IsForm : LawForm → Type 0
-IsForm (drags law) = IsDrag law
-IsForm (raises in_min out_max ratio_num ratio_den rise_max) = IsRatio ratio_num ratio_den
+IsForm (Drags law) = IsDrag law.drag
+IsForm (Raises in_min out_max ratio_num ratio_den rise_max) = IsRatio ratio_num ratio_den
 IsForm form = Unit {0}
 
 -- ---- a point and a box in the same units
@@ -55,50 +61,50 @@ not_true true n h = cc
 not_true false n h = cc
 
 -- ---- resistances
-pub drag_says : (law : Drag) (N q u v : ℤ) → IsTrue (meets_resistance law N q u v) → (drop_low law q ≤ℤ (law.den *ℤ N *ℤ (u -ℤ v))) × ((law.den *ℤ N *ℤ (u -ℤ v)) ≤ℤ drop_high law q)
+pub drag_says : (law : PipeLaw) (N q u v : ℤ) → IsTrue (meets_resistance law N q u v) → (drop_low law.drag q ≤ℤ (law.drag.den *ℤ N *ℤ (u -ℤ v))) × ((law.drag.den *ℤ N *ℤ (u -ℤ v)) ≤ℤ drop_high law.drag q)
 drag_says law N q u v h =
-    let t = and_parts (int_le (drop_low law q) (law.den *ℤ N *ℤ (u -ℤ v))) (int_le (law.den *ℤ N *ℤ (u -ℤ v)) (drop_high law q)) h in
+    let t = and_parts (int_le (drop_low law.drag q) (law.drag.den *ℤ N *ℤ (u -ℤ v))) (int_le (law.drag.den *ℤ N *ℤ (u -ℤ v)) (drop_high law.drag q)) h in
     (omega (arith, linear, t.0), omega (arith, linear, t.1))
 
-factor_pos : (law : Drag) (N : ℤ) → IsDrag law → pos 0 <ℤ N → pos 0 <ℤ (law.den *ℤ N)
-factor_pos law N i k = mul_pos law.den N (omega (arith, linear, i.den)) k
+factor_pos : (law : PipeLaw) (N : ℤ) → IsDrag law.drag → pos 0 <ℤ N → pos 0 <ℤ (law.drag.den *ℤ N)
+factor_pos law N i k = mul_pos law.drag.den N (omega (arith, linear, i.den)) k
 
-gap_le : (law : Drag) (N a b : ℤ) → IsDrag law → pos 0 <ℤ N → a ≤ℤ b → (law.den *ℤ N *ℤ a) ≤ℤ (law.den *ℤ N *ℤ b)
-gap_le law N a b i k h = mul_le_left (law.den *ℤ N) a b (omega (arith, linear, factor_pos law N i k)) h
+gap_le : (law : PipeLaw) (N a b : ℤ) → IsDrag law.drag → pos 0 <ℤ N → a ≤ℤ b → (law.drag.den *ℤ N *ℤ a) ≤ℤ (law.drag.den *ℤ N *ℤ b)
+gap_le law N a b i k h = mul_le_left (law.drag.den *ℤ N) a b (omega (arith, linear, factor_pos law N i k)) h
 
-le_of_gap : (law : Drag) (N a b : ℤ) → IsDrag law → pos 0 <ℤ N → (law.den *ℤ N *ℤ a) ≤ℤ (law.den *ℤ N *ℤ b) → a ≤ℤ b
-le_of_gap law N a b i k h = le_of_mul_left (law.den *ℤ N) a b (factor_pos law N i k) h
+le_of_gap : (law : PipeLaw) (N a b : ℤ) → IsDrag law.drag → pos 0 <ℤ N → (law.drag.den *ℤ N *ℤ a) ≤ℤ (law.drag.den *ℤ N *ℤ b) → a ≤ℤ b
+le_of_gap law N a b i k h = le_of_mul_left (law.drag.den *ℤ N) a b (factor_pos law N i k) h
 
-pipe_sound : (law : Drag) (N q u v : ℤ) (e : ArcEnds) (x : ArcVar) (low : Bool) (C : ℤ) → IsDrag law → pos 0 <ℤ N → IsTrue (meets_resistance law N q u v) → Inside q u v e → IsTrue (pipe_step law N e x low C) → Beyond low C (value_of x q u v)
+pipe_sound : (law : PipeLaw) (N q u v : ℤ) (e : ArcEnds) (x : ArcVar) (low : Bool) (C : ℤ) → IsDrag law.drag → pos 0 <ℤ N → IsTrue (meets_resistance law N q u v) → Inside q u v e → IsTrue (pipe_step law N e x low C) → Beyond low C (value_of x q u v)
 pipe_sound law N q u v e OfFlow true C i k h w t =
     let s = drag_says law N q u v h in
-    le_of_curve law.hi law.lo C q i.hi i.lo (omega (arith, linear, s.1, gap_le law N (e.u.lo -ℤ e.v.hi) (u -ℤ v) i k (omega (arith, linear, w.u_lo, w.v_hi))))
+    le_of_curve law.drag.hi law.drag.lo C q i.hi i.lo (omega (arith, linear, s.1, gap_le law N (e.u.lo -ℤ e.v.hi) (u -ℤ v) i k (omega (arith, linear, w.u_lo, w.v_hi))))
 pipe_sound law N q u v e OfFlow false C i k h w t =
     let s = drag_says law N q u v h in
-    le_of_curve law.lo law.hi q C i.lo i.hi (omega (arith, linear, s.0, gap_le law N (u -ℤ v) (e.u.hi -ℤ e.v.lo) i k (omega (arith, linear, w.u_hi, w.v_lo))))
+    le_of_curve law.drag.lo law.drag.hi q C i.lo i.hi (omega (arith, linear, s.0, gap_le law N (u -ℤ v) (e.u.hi -ℤ e.v.lo) i k (omega (arith, linear, w.u_hi, w.v_lo))))
 pipe_sound law N q u v e OfFrom true C i k h w t =
     let s = drag_says law N q u v h in
-    let m = le_of_gap law N (C -ℤ e.v.lo) (u -ℤ v) i k (omega (arith, linear, s.0, curve_le law.lo law.hi e.q.lo q i.lo i.hi w.q_lo)) in
+    let m = le_of_gap law N (C -ℤ e.v.lo) (u -ℤ v) i k (omega (arith, linear, s.0, curve_le law.drag.lo law.drag.hi e.q.lo q i.lo i.hi w.q_lo)) in
     omega (arith, linear, w.v_lo)
 pipe_sound law N q u v e OfFrom false C i k h w t =
     let s = drag_says law N q u v h in
-    let m = le_of_gap law N (u -ℤ v) (C -ℤ e.v.hi) i k (omega (arith, linear, s.1, curve_le law.hi law.lo q e.q.hi i.hi i.lo w.q_hi)) in
+    let m = le_of_gap law N (u -ℤ v) (C -ℤ e.v.hi) i k (omega (arith, linear, s.1, curve_le law.drag.hi law.drag.lo q e.q.hi i.hi i.lo w.q_hi)) in
     omega (arith, linear, w.v_hi)
 pipe_sound law N q u v e OfTo true C i k h w t =
     let s = drag_says law N q u v h in
-    let m = le_of_gap law N (u -ℤ v) (e.u.lo -ℤ C) i k (omega (arith, linear, s.1, curve_le law.hi law.lo q e.q.hi i.hi i.lo w.q_hi)) in
+    let m = le_of_gap law N (u -ℤ v) (e.u.lo -ℤ C) i k (omega (arith, linear, s.1, curve_le law.drag.hi law.drag.lo q e.q.hi i.hi i.lo w.q_hi)) in
     omega (arith, linear, w.u_lo)
 pipe_sound law N q u v e OfTo false C i k h w t =
     let s = drag_says law N q u v h in
-    let m = le_of_gap law N (e.u.hi -ℤ C) (u -ℤ v) i k (omega (arith, linear, s.0, curve_le law.lo law.hi e.q.lo q i.lo i.hi w.q_lo)) in
+    let m = le_of_gap law N (e.u.hi -ℤ C) (u -ℤ v) i k (omega (arith, linear, s.0, curve_le law.drag.lo law.drag.hi e.q.lo q i.lo i.hi w.q_lo)) in
     omega (arith, linear, w.u_hi)
 
-pipe_closed : (law : Drag) (N q u v : ℤ) (e : ArcEnds) → IsDrag law → pos 0 <ℤ N → IsTrue (meets_resistance law N q u v) → Inside q u v e → IsTrue (pipe_closing law N e) → ⊥
+pipe_closed : (law : PipeLaw) (N q u v : ℤ) (e : ArcEnds) → IsDrag law.drag → pos 0 <ℤ N → IsTrue (meets_resistance law N q u v) → Inside q u v e → IsTrue (pipe_closing law N e) → ⊥
 pipe_closed law N q u v e i k h w t =
     let s = drag_says law N q u v h in
-    elim (either (int_lt (law.den *ℤ N *ℤ (e.u.hi -ℤ e.v.lo)) (drop_low law e.q.lo)) (int_lt (drop_high law e.q.hi) (law.den *ℤ N *ℤ (e.u.lo -ℤ e.v.hi))) t) [
-      | inl little ↦ omega (arith, linear, s.0, little, curve_le law.lo law.hi e.q.lo q i.lo i.hi w.q_lo, gap_le law N (u -ℤ v) (e.u.hi -ℤ e.v.lo) i k (omega (arith, linear, w.u_hi, w.v_lo)))
-      | inr much ↦ omega (arith, linear, s.1, much, curve_le law.hi law.lo q e.q.hi i.hi i.lo w.q_hi, gap_le law N (e.u.lo -ℤ e.v.hi) (u -ℤ v) i k (omega (arith, linear, w.u_lo, w.v_hi)))
+    elim (either (int_lt (law.drag.den *ℤ N *ℤ (e.u.hi -ℤ e.v.lo)) (drop_low law.drag e.q.lo)) (int_lt (drop_high law.drag e.q.hi) (law.drag.den *ℤ N *ℤ (e.u.lo -ℤ e.v.hi))) t) [
+      | inl little ↦ omega (arith, linear, s.0, little, curve_le law.drag.lo law.drag.hi e.q.lo q i.lo i.hi w.q_lo, gap_le law N (u -ℤ v) (e.u.hi -ℤ e.v.lo) i k (omega (arith, linear, w.u_hi, w.v_lo)))
+      | inr much ↦ omega (arith, linear, s.1, much, curve_le law.drag.hi law.drag.lo q e.q.hi i.hi i.lo w.q_hi, gap_le law N (e.u.lo -ℤ e.v.hi) (u -ℤ v) i k (omega (arith, linear, w.u_lo, w.v_hi)))
     ]
 
 -- ---- equal squares, and no flow
@@ -341,7 +347,7 @@ pub record ReducesSays (in_min out_max m M N q u v : ℤ) : Type 0 where
   pub falls : IsTrue (falls_between m M N u v)
   pub inner : IsTrue (keeps_inner in_min out_max N u v)
 
-reduces_says : (in_min out_max m M N q u v : ℤ) → IsTrue (meets_form (reduces in_min out_max m M) N q u v) → ReducesSays in_min out_max m M N q u v
+reduces_says : (in_min out_max m M N q u v : ℤ) → IsTrue (meets_form (Reduces in_min out_max m M) N q u v) → ReducesSays in_min out_max m M N q u v
 reduces_says in_min out_max m M N q u v h =
     let a = and_parts (int_le (pos 0) q && falls_between m M N u v) (keeps_inner in_min out_max N u v) h in
     let b = and_parts (int_le (pos 0) q) (falls_between m M N u v) a.0 in
@@ -354,7 +360,7 @@ pub record RaisesSays (in_min out_max num den M N q u v : ℤ) : Type 0 where
   pub ratio : IsTrue (keeps_ratio num den u v)
   pub inner : IsTrue (keeps_inner in_min out_max N u v)
 
-raises_says : (in_min out_max num den M N q u v : ℤ) → IsTrue (meets_form (raises in_min out_max num den M) N q u v) → RaisesSays in_min out_max num den M N q u v
+raises_says : (in_min out_max num den M N q u v : ℤ) → IsTrue (meets_form (Raises in_min out_max num den M) N q u v) → RaisesSays in_min out_max num den M N q u v
 raises_says in_min out_max num den M N q u v h =
     let a = and_parts (int_le (pos 0) q && rises_within num den M N u v) (keeps_inner in_min out_max N u v) h in
     let b = and_parts (int_le (pos 0) q) (rises_within num den M N u v) a.0 in
@@ -364,28 +370,28 @@ raises_says in_min out_max num den M N q u v h =
 
 -- ---- all rules
 pub step_beyond : (rule : Rule) (form : LawForm) (N q u v : ℤ) (e : ArcEnds) (x : ArcVar) (low : Bool) (C : ℤ) → IsForm form → pos 0 <ℤ N → IsTrue (meets_form form N q u v) → Inside q u v e → IsTrue (arc_step rule form N e x low C) → Beyond low C (value_of x q u v)
-step_beyond Pipe (drags law) N q u v e x low C i k h w t = pipe_sound law N q u v e x low C i k h w t
-step_beyond Equal equals N q u v e x low C i k h w t = equal_sound q u v e x low C h w t
-step_beyond Zero shuts N q u v e x low C i k h w t = zero_sound q u v x low C h t
-step_beyond Way (reduces in_min out_max m M) N q u v e x low C i k h w t = way_sound q u v x low C (reduces_says in_min out_max m M N q u v h).way t
-step_beyond Way (raises in_min out_max num den M) N q u v e x low C i k h w t = way_sound q u v x low C (raises_says in_min out_max num den M N q u v h).way t
-step_beyond Inner (reduces in_min out_max m M) N q u v e x low C i k h w t = inner_sound in_min out_max N q u v x low C (reduces_says in_min out_max m M N q u v h).inner t
-step_beyond Inner (raises in_min out_max num den M) N q u v e x low C i k h w t = inner_sound in_min out_max N q u v x low C (raises_says in_min out_max num den M N q u v h).inner t
-step_beyond Fall (reduces in_min out_max m M) N q u v e x low C i k h w t = fall_sound m M N q u v e x low C (omega (arith, linear)) (reduces_says in_min out_max m M N q u v h).falls w t
-step_beyond Order (raises in_min out_max num den M) N q u v e x low C i k h w t = order_sound q u v e x low C (raises_says in_min out_max num den M N q u v h).order w t
-step_beyond Rise (raises in_min out_max num den M) N q u v e x low C i k h w t = rise_sound M N q u v e x low C (omega (arith, linear)) (raises_says in_min out_max num den M N q u v h).rise w t
-step_beyond Ratio (raises in_min out_max num den M) N q u v e x low C i k h w t = ratio_sound num den q u v e x low C i (raises_says in_min out_max num den M N q u v h).ratio w t
-step_beyond Sign (loses m M) N q u v e x low C i k h w t = sign_sound m M N q u v e x low C (omega (arith, linear)) (loss_says m M N q u v h) w t
-step_beyond Reach (loses m M) N q u v e x low C i k h w t = reach_sound m M N q u v e x low C (omega (arith, linear)) (loss_says m M N q u v h) w t
-step_beyond Along (loses m M) N q u v e x low C i k h w t = along_sound m M N q u v e x low C (omega (arith, linear)) (loss_says m M N q u v h) w t
-step_beyond Drop (loses m M) N q u v e x low C i k h w t = drop_sound m M N q u v e x low C (omega (arith, linear)) (loss_says m M N q u v h) w t
+step_beyond Pipe (Drags law) N q u v e x low C i k h w t = pipe_sound law N q u v e x low C i k h w t
+step_beyond Equal Equals N q u v e x low C i k h w t = equal_sound q u v e x low C h w t
+step_beyond Zero Shuts N q u v e x low C i k h w t = zero_sound q u v x low C h t
+step_beyond Way (Reduces in_min out_max m M) N q u v e x low C i k h w t = way_sound q u v x low C (reduces_says in_min out_max m M N q u v h).way t
+step_beyond Way (Raises in_min out_max num den M) N q u v e x low C i k h w t = way_sound q u v x low C (raises_says in_min out_max num den M N q u v h).way t
+step_beyond Inner (Reduces in_min out_max m M) N q u v e x low C i k h w t = inner_sound in_min out_max N q u v x low C (reduces_says in_min out_max m M N q u v h).inner t
+step_beyond Inner (Raises in_min out_max num den M) N q u v e x low C i k h w t = inner_sound in_min out_max N q u v x low C (raises_says in_min out_max num den M N q u v h).inner t
+step_beyond Fall (Reduces in_min out_max m M) N q u v e x low C i k h w t = fall_sound m M N q u v e x low C (omega (arith, linear)) (reduces_says in_min out_max m M N q u v h).falls w t
+step_beyond Order (Raises in_min out_max num den M) N q u v e x low C i k h w t = order_sound q u v e x low C (raises_says in_min out_max num den M N q u v h).order w t
+step_beyond Rise (Raises in_min out_max num den M) N q u v e x low C i k h w t = rise_sound M N q u v e x low C (omega (arith, linear)) (raises_says in_min out_max num den M N q u v h).rise w t
+step_beyond Ratio (Raises in_min out_max num den M) N q u v e x low C i k h w t = ratio_sound num den q u v e x low C i (raises_says in_min out_max num den M N q u v h).ratio w t
+step_beyond Sign (Loses m M) N q u v e x low C i k h w t = sign_sound m M N q u v e x low C (omega (arith, linear)) (loss_says m M N q u v h) w t
+step_beyond Reach (Loses m M) N q u v e x low C i k h w t = reach_sound m M N q u v e x low C (omega (arith, linear)) (loss_says m M N q u v h) w t
+step_beyond Along (Loses m M) N q u v e x low C i k h w t = along_sound m M N q u v e x low C (omega (arith, linear)) (loss_says m M N q u v h) w t
+step_beyond Drop (Loses m M) N q u v e x low C i k h w t = drop_sound m M N q u v e x low C (omega (arith, linear)) (loss_says m M N q u v h) w t
 step_beyond rule form N q u v e x low C i k h w t = absurd cc
 
 pub closing_none : (rule : Rule) (form : LawForm) (N q u v : ℤ) (e : ArcEnds) → IsForm form → pos 0 <ℤ N → IsTrue (meets_form form N q u v) → Inside q u v e → IsTrue (arc_closing rule form N e) → ⊥
-closing_none Pipe (drags law) N q u v e i k h w t = pipe_closed law N q u v e i k h w t
-closing_none Fall (reduces in_min out_max m M) N q u v e i k h w t = fall_closed m M N q u v e (omega (arith, linear)) (reduces_says in_min out_max m M N q u v h).falls w t
-closing_none Rise (raises in_min out_max num den M) N q u v e i k h w t = rise_closed M N q u v e (omega (arith, linear)) (raises_says in_min out_max num den M N q u v h).rise w t
-closing_none Ratio (raises in_min out_max num den M) N q u v e i k h w t = ratio_closed num den q u v e (raises_says in_min out_max num den M N q u v h).ratio w t
-closing_none Reach (loses m M) N q u v e i k h w t = reach_closed m M N q u v e (omega (arith, linear)) (loss_says m M N q u v h) w t
-closing_none Drop (loses m M) N q u v e i k h w t = drop_closed m M N q u v e (omega (arith, linear)) (loss_says m M N q u v h) w t
+closing_none Pipe (Drags law) N q u v e i k h w t = pipe_closed law N q u v e i k h w t
+closing_none Fall (Reduces in_min out_max m M) N q u v e i k h w t = fall_closed m M N q u v e (omega (arith, linear)) (reduces_says in_min out_max m M N q u v h).falls w t
+closing_none Rise (Raises in_min out_max num den M) N q u v e i k h w t = rise_closed M N q u v e (omega (arith, linear)) (raises_says in_min out_max num den M N q u v h).rise w t
+closing_none Ratio (Raises in_min out_max num den M) N q u v e i k h w t = ratio_closed num den q u v e (raises_says in_min out_max num den M N q u v h).ratio w t
+closing_none Reach (Loses m M) N q u v e i k h w t = reach_closed m M N q u v e (omega (arith, linear)) (loss_says m M N q u v h) w t
+closing_none Drop (Loses m M) N q u v e i k h w t = drop_closed m M N q u v e (omega (arith, linear)) (loss_says m M N q u v h) w t
 closing_none rule form N q u v e i k h w t = cc

@@ -1,35 +1,26 @@
 -- The conditions of steps and closings by the law of one arc. Ends and values count units of 1/K.
 use Rattle.std.specs.Prelude.{ℤ, pos, negsuc, ◌-ℤ◌, ◌*ℤ◌, Bool, true, false, not, ◌&&◌, ◌||◌, int_le, int_lt}
-use Rattle.gas_model.specs.declared.rows.Drag.{Drag}
-use Rattle.gas_model.specs.declared.rows.Ends.{Ends}
+use Rattle.gas_model.specs.declared.law_forms.PipeLaw.{PipeLaw}
+use Rattle.tree_rules.specs.declared.arc_vars.ArcEnds.{ArcEnds}
+use Rattle.tree_rules.specs.declared.arc_vars.ArcVar.{ArcVar}
+use Rattle.tree_rules.specs.declared.arc_vars.ArcVar.TheVariants.{OfFlow, OfFrom, OfTo}
 use Rattle.gas_model.specs.Curves.{square, drop_low, drop_high, at_most, at_least}
-use Rattle.gas_model.specs.Laws.{LawForm, drags, equals, shuts, loses, reduces, raises}
+use Rattle.gas_model.specs.declared.law_forms.LawForm.{LawForm}
+use Rattle.gas_model.specs.declared.law_forms.LawForm.TheVariants.{Drags, Equals, Shuts, Loses, Reduces, Raises}
 use Rattle.tree_cert.specs.declared.line.Rule.{Rule}
 use Rattle.tree_cert.specs.declared.line.Rule.TheVariants.{Pipe, Equal, Zero, Way, Inner, Fall, Order, Rise, Ratio, Sign, Reach, Along, Drop}
-
--- the ends of the variables of an arc: of its flow q, and of the squares u at its `from` and v at its `to`
-pub record ArcEnds : Type 0 where
-  pub q : Ends
-  pub u : Ends
-  pub v : Ends
-
--- one of the three variables
-pub data ArcVar : Type 0 where
-  OfFlow : ArcVar
-  OfFrom : ArcVar
-  OfTo : ArcVar
 
 -- A step gives the lower (`low`) or the upper end of a variable the value C. Each condition keeps every point that
 -- meets the law: a lower end may become C where each such point is at least C, an upper end where it is at most C.
 
 -- by the drop along a resistance
-abbrev pub pipe_step : Drag → ℤ → ArcEnds → ArcVar → (low : Bool) → (C : ℤ) → Bool
-pipe_step law K e OfFlow true C = int_le (drop_high law C) (law.den *ℤ K *ℤ (e.u.lo -ℤ e.v.hi))
-pipe_step law K e OfFlow false C = int_le (law.den *ℤ K *ℤ (e.u.hi -ℤ e.v.lo)) (drop_low law C)
-pipe_step law K e OfFrom true C = int_le (law.den *ℤ K *ℤ (C -ℤ e.v.lo)) (drop_low law e.q.lo)
-pipe_step law K e OfFrom false C = int_le (drop_high law e.q.hi) (law.den *ℤ K *ℤ (C -ℤ e.v.hi))
-pipe_step law K e OfTo true C = int_le (drop_high law e.q.hi) (law.den *ℤ K *ℤ (e.u.lo -ℤ C))
-pipe_step law K e OfTo false C = int_le (law.den *ℤ K *ℤ (e.u.hi -ℤ C)) (drop_low law e.q.lo)
+abbrev pub pipe_step : PipeLaw → ℤ → ArcEnds → ArcVar → (low : Bool) → (C : ℤ) → Bool
+pipe_step law K e OfFlow true C = int_le (drop_high law.drag C) (law.drag.den *ℤ K *ℤ (e.u.lo -ℤ e.v.hi))
+pipe_step law K e OfFlow false C = int_le (law.drag.den *ℤ K *ℤ (e.u.hi -ℤ e.v.lo)) (drop_low law.drag C)
+pipe_step law K e OfFrom true C = int_le (law.drag.den *ℤ K *ℤ (C -ℤ e.v.lo)) (drop_low law.drag e.q.lo)
+pipe_step law K e OfFrom false C = int_le (drop_high law.drag e.q.hi) (law.drag.den *ℤ K *ℤ (C -ℤ e.v.hi))
+pipe_step law K e OfTo true C = int_le (drop_high law.drag e.q.hi) (law.drag.den *ℤ K *ℤ (e.u.lo -ℤ C))
+pipe_step law K e OfTo false C = int_le (law.drag.den *ℤ K *ℤ (e.u.hi -ℤ C)) (drop_low law.drag e.q.lo)
 
 -- by equal squares
 abbrev pub equal_step : ArcEnds → ArcVar → (low : Bool) → (C : ℤ) → Bool
@@ -115,21 +106,21 @@ drop_step low_loss K e OfFlow low C = false
 
 -- a rule of the law of an arc gives the end of its variable the value C
 abbrev pub arc_step : Rule → LawForm → ℤ → ArcEnds → ArcVar → (low : Bool) → (C : ℤ) → Bool
-arc_step Pipe (drags law) K e x low C = pipe_step law K e x low C
-arc_step Equal equals K e x low C = equal_step e x low C
-arc_step Zero shuts K e x low C = zero_step x low C
-arc_step Way (reduces in_min out_max red_min red_max) K e x low C = way_step x low C
-arc_step Way (raises in_min out_max ratio_num ratio_den rise_max) K e x low C = way_step x low C
-arc_step Inner (reduces in_min out_max red_min red_max) K e x low C = inner_step in_min out_max K x low C
-arc_step Inner (raises in_min out_max ratio_num ratio_den rise_max) K e x low C = inner_step in_min out_max K x low C
-arc_step Fall (reduces in_min out_max red_min red_max) K e x low C = fall_step red_min red_max K e x low C
-arc_step Order (raises in_min out_max ratio_num ratio_den rise_max) K e x low C = order_step e x low C
-arc_step Rise (raises in_min out_max ratio_num ratio_den rise_max) K e x low C = rise_step rise_max K e x low C
-arc_step Ratio (raises in_min out_max ratio_num ratio_den rise_max) K e x low C = ratio_step ratio_num ratio_den e x low C
-arc_step Sign (loses low_loss high_loss) K e x low C = sign_step low_loss K e x low C
-arc_step Reach (loses low_loss high_loss) K e x low C = reach_step high_loss K e x low C
-arc_step Along (loses low_loss high_loss) K e x low C = along_step e x low C
-arc_step Drop (loses low_loss high_loss) K e x low C = drop_step low_loss K e x low C
+arc_step Pipe (Drags law) K e x low C = pipe_step law K e x low C
+arc_step Equal Equals K e x low C = equal_step e x low C
+arc_step Zero Shuts K e x low C = zero_step x low C
+arc_step Way (Reduces in_min out_max red_min red_max) K e x low C = way_step x low C
+arc_step Way (Raises in_min out_max ratio_num ratio_den rise_max) K e x low C = way_step x low C
+arc_step Inner (Reduces in_min out_max red_min red_max) K e x low C = inner_step in_min out_max K x low C
+arc_step Inner (Raises in_min out_max ratio_num ratio_den rise_max) K e x low C = inner_step in_min out_max K x low C
+arc_step Fall (Reduces in_min out_max red_min red_max) K e x low C = fall_step red_min red_max K e x low C
+arc_step Order (Raises in_min out_max ratio_num ratio_den rise_max) K e x low C = order_step e x low C
+arc_step Rise (Raises in_min out_max ratio_num ratio_den rise_max) K e x low C = rise_step rise_max K e x low C
+arc_step Ratio (Raises in_min out_max ratio_num ratio_den rise_max) K e x low C = ratio_step ratio_num ratio_den e x low C
+arc_step Sign (Loses low_loss high_loss) K e x low C = sign_step low_loss K e x low C
+arc_step Reach (Loses low_loss high_loss) K e x low C = reach_step high_loss K e x low C
+arc_step Along (Loses low_loss high_loss) K e x low C = along_step e x low C
+arc_step Drop (Loses low_loss high_loss) K e x low C = drop_step low_loss K e x low C
 arc_step rule form K e x low C = false
 
 -- the rules whose values are never negative
@@ -143,13 +134,13 @@ keeps_sign rule C = true
 -- No flow and no squares between the ends meet the law. A closing with two causes has a test for each.
 
 -- the squares lie too near for the least flow, or too far apart for the greatest
-abbrev pub drops_too_little : Drag → ℤ → ArcEnds → Bool
-drops_too_little law K e = int_lt (law.den *ℤ K *ℤ (e.u.hi -ℤ e.v.lo)) (drop_low law e.q.lo)
+abbrev pub drops_too_little : PipeLaw → ℤ → ArcEnds → Bool
+drops_too_little law K e = int_lt (law.drag.den *ℤ K *ℤ (e.u.hi -ℤ e.v.lo)) (drop_low law.drag e.q.lo)
 
-abbrev pub drops_too_much : Drag → ℤ → ArcEnds → Bool
-drops_too_much law K e = int_lt (drop_high law e.q.hi) (law.den *ℤ K *ℤ (e.u.lo -ℤ e.v.hi))
+abbrev pub drops_too_much : PipeLaw → ℤ → ArcEnds → Bool
+drops_too_much law K e = int_lt (drop_high law.drag e.q.hi) (law.drag.den *ℤ K *ℤ (e.u.lo -ℤ e.v.hi))
 
-abbrev pub pipe_closing : Drag → ℤ → ArcEnds → Bool
+abbrev pub pipe_closing : PipeLaw → ℤ → ArcEnds → Bool
 pipe_closing law K e = drops_too_little law K e || drops_too_much law K e
 
 -- the pressure falls by less than red_min everywhere, or by more than red_max
@@ -190,10 +181,10 @@ drop_closing low_loss K e = loses_too_little low_loss K e || loses_too_little_ba
 
 -- The law of an arc holds nowhere in the box, by a rule that closes boxes. No other rule does.
 abbrev pub arc_closing : Rule → LawForm → ℤ → ArcEnds → Bool
-arc_closing Pipe (drags law) K e = pipe_closing law K e
-arc_closing Fall (reduces in_min out_max red_min red_max) K e = fall_closing red_min red_max K e
-arc_closing Rise (raises in_min out_max ratio_num ratio_den rise_max) K e = rise_closing rise_max K e
-arc_closing Ratio (raises in_min out_max ratio_num ratio_den rise_max) K e = ratio_closing ratio_num ratio_den e
-arc_closing Reach (loses low_loss high_loss) K e = reach_closing high_loss K e
-arc_closing Drop (loses low_loss high_loss) K e = drop_closing low_loss K e
+arc_closing Pipe (Drags law) K e = pipe_closing law K e
+arc_closing Fall (Reduces in_min out_max red_min red_max) K e = fall_closing red_min red_max K e
+arc_closing Rise (Raises in_min out_max ratio_num ratio_den rise_max) K e = rise_closing rise_max K e
+arc_closing Ratio (Raises in_min out_max ratio_num ratio_den rise_max) K e = ratio_closing ratio_num ratio_den e
+arc_closing Reach (Loses low_loss high_loss) K e = reach_closing high_loss K e
+arc_closing Drop (Loses low_loss high_loss) K e = drop_closing low_loss K e
 arc_closing rule form K e = false

@@ -1,10 +1,10 @@
 -- The children of branches of small problems.
 use Rattle.std.specs.Prelude.{◌≡◌, ℕ, pos, negsuc, List, [], ◌∷◌, codes, Bool, true, false, Some, None, is_some}
-use Rattle.gas_model.specs.declared.rows.ArcState.TheVariants.{Shut, Active, Bypass}
-use Rattle.gas_model.specs.declared.rows.Allow.{Allow}
-use Rattle.gas_model.specs.declared.rows.Allow.TheVariants as allow
+use Rattle.base_types.specs.declared.states.ArcState.TheVariants.{Shut, Active, Bypass}
+use Rattle.base_types.specs.declared.states.Allow.{Allow}
+use Rattle.base_types.specs.declared.states.Allow.TheVariants as allow
 use Rattle.gas_model.specs.declared.rows.Decision.{Decision}
-use Rattle.gas_model.specs.declared.rows.Var.TheVariants.{Flow, Square}
+use Rattle.base_types.specs.declared.variables.Var.TheVariants.{Flow, Square}
 use Rattle.gas_model.specs.Rows.{Network}
 use Rattle.gas_model.specs.Choices.{fresh_part}
 use Rattle.tree_cert.specs.declared.line.Head.{Head}

@@ -4,10 +4,10 @@ use Rattle.gas_model.specs.declared.rows.NodeRow.{NodeRow}
 use Rattle.gas_model.specs.declared.rows.ArcRow.{ArcRow}
 use Rattle.gas_model.specs.declared.rows.ArcKind.{ArcKind}
 use Rattle.gas_model.specs.declared.rows.ArcKind.TheVariants as kinds
-use Rattle.gas_model.specs.declared.rows.ArcState.TheVariants.{Shut, Active, Bypass}
-use Rattle.gas_model.specs.declared.rows.Allow.TheVariants as allow
-use Rattle.gas_model.specs.declared.rows.Var.{Var}
-use Rattle.gas_model.specs.declared.rows.Var.TheVariants.{Flow, Square}
+use Rattle.base_types.specs.declared.states.ArcState.TheVariants.{Shut, Active, Bypass}
+use Rattle.base_types.specs.declared.states.Allow.TheVariants as allow
+use Rattle.base_types.specs.declared.variables.Var.{Var}
+use Rattle.base_types.specs.declared.variables.Var.TheVariants.{Flow, Square}
 use Rattle.gas_model.specs.Rows.{Network}
 use Rattle.tree_cert.specs.declared.line.Rule.{Rule}
 use Rattle.tree_cert.specs.declared.line.Rule.TheVariants as rules

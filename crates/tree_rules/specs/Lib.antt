@@ -5,7 +5,7 @@ pub mod Branches
 pub mod Theorems
 pub mod Examples
 pub mod Looser
-pub mod Roots
+pub mod TightestRoots
 pub mod Values
 pub mod Children
 pub mod Ranges

@@ -1,6 +1,6 @@
 -- Values of a rule that are no tighter than one that it gives.
-use Rattle.std.specs.Prelude.{ℕ, ℤ, pos, ◌≤ℤ◌, Bool, true, false, IsTrue}
-use Rattle.gas_model.specs.declared.rows.Var.{Var}
+use Rattle.std.specs.Prelude.{ℕ, ℤ, pos, ◌≤ℤ◌, Bool, true, false, int_le, IsTrue}
+use Rattle.base_types.specs.declared.variables.Var.{Var}
 use Rattle.gas_model.specs.Rows.{Network}
 use Rattle.gas_model.specs.Within.{IsWithin}
 use Rattle.tree_cert.specs.declared.line.Rule.{Rule}
@@ -32,3 +32,8 @@ StepsLoosen =
 pub record IsTightest (p : Network) (b : PartBox) (s : Step) : Type 0 where
   pub holds : IsTrue (step_holds p b s)
   pub tightest : (B : ℤ) → IsTrue (step_holds p b (with_value s B)) → IsNoTighter s.low B s.value
+
+-- the values from the bound on that are looser, for the lower (`low`) or the upper end
+abbrev pub reaches : (low : Bool) → (bound : ℤ) → ℤ → Bool
+reaches true bound C = int_le C bound
+reaches false bound C = int_le bound C

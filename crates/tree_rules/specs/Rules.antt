@@ -3,13 +3,13 @@ use Rattle.std.specs.Prelude.{ℕ, ◌==◌, ℤ, List, Bool, true, false, not, 
 use Rattle.std.specs.Option.{option_map_or}
 use Rattle.gas_model.specs.declared.rows.NodeRow.{NodeRow}
 use Rattle.gas_model.specs.declared.rows.ArcRow.{ArcRow}
-use Rattle.gas_model.specs.declared.rows.ArcState.{ArcState}
-use Rattle.gas_model.specs.declared.rows.ArcState.TheVariants.{Shut}
+use Rattle.base_types.specs.declared.states.ArcState.{ArcState}
 use Rattle.gas_model.specs.declared.rows.PartState.{PartState}
-use Rattle.gas_model.specs.declared.rows.Var.{Var}
-use Rattle.gas_model.specs.declared.rows.Var.TheVariants.{Flow, Square}
+use Rattle.base_types.specs.declared.variables.Var.{Var}
+use Rattle.base_types.specs.declared.variables.Var.TheVariants.{Flow, Square}
 use Rattle.gas_model.specs.Rows.{Network}
-use Rattle.gas_model.specs.Laws.{LawForm, form_of}
+use Rattle.gas_model.specs.declared.law_forms.LawForm.{LawForm}
+use Rattle.gas_model.specs.Laws.{form_of, is_shut}
 use Rattle.gas_model.specs.Choices.{fixed_state}
 use Rattle.gas_model.specs.Boxes.{Bounds, ends_of, is_var, is_empty, may_become, tightened}
 use Rattle.tree_cert.specs.declared.line.Rule.{Rule}
@@ -17,7 +17,10 @@ use Rattle.tree_cert.specs.declared.line.Rule.TheVariants.{Balance}
 use Rattle.tree_cert.specs.declared.line.Step.{Step}
 use Rattle.tree_cert.specs.declared.line.Closing.{Closing}
 use Rattle.tree_cert.specs.declared.line.Closing.TheVariants.{Empty, Cut, At}
-use Rattle.tree_rules.specs.ArcRules.{ArcEnds, ArcVar, OfFlow, OfFrom, OfTo, arc_step, arc_closing, keeps_sign}
+use Rattle.tree_rules.specs.declared.arc_vars.ArcEnds.{ArcEnds}
+use Rattle.tree_rules.specs.declared.arc_vars.ArcVar.{ArcVar}
+use Rattle.tree_rules.specs.declared.arc_vars.ArcVar.TheVariants.{OfFlow, OfFrom, OfTo}
+use Rattle.tree_rules.specs.ArcRules.{arc_step, arc_closing, keeps_sign}
 use Rattle.tree_rules.specs.NodeRules.{leaving_step, entering_step, balance_closing, are_cut_nodes, crosses, all_arcs, is_unbalanced}
 
 -- a part state and the ends of all variables, which count units of 1 / scale
@@ -90,11 +93,6 @@ stepped b s = record { scale = b.scale; part = b.part; bounds = tightened b.boun
 
 abbrev pub after_step : Network → PartBox → Step → Option PartBox
 after_step p b s = if step_holds p b s then Some (stepped b s) else None
-
--- the state is fixed as shut
-abbrev pub is_shut : Option ArcState → Bool
-is_shut (Some Shut) = true
-is_shut state = false
 
 -- the nodes of a list are joined to others by shut arcs alone, and can't balance together
 abbrev pub cuts : Network → PartState → List ℕ → Bool

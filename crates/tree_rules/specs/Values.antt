@@ -3,13 +3,18 @@ use Rattle.std.specs.Prelude.{◌≡◌, ℕ, ℤ, pos, negsuc, ◌+ℤ◌, ◌-
 use Rattle.std.specs.List.{list_all}
 use Rattle.gas_model.specs.declared.rows.ArcKind.TheVariants.{Short}
 use Rattle.gas_model.specs.declared.rows.Ends.{Ends}
-use Rattle.gas_model.specs.declared.rows.Var.TheVariants.{Flow}
+use Rattle.base_types.specs.declared.variables.Var.TheVariants.{Flow}
 use Rattle.gas_model.specs.Rows.{Network}
 use Rattle.gas_model.specs.Choices.{fresh_part}
-use Rattle.gas_model.specs.Laws.{LawForm, drags, equals, shuts, loses, reduces, raises}
+use Rattle.gas_model.specs.Laws.{level}
+use Rattle.gas_model.specs.declared.law_forms.LawForm.{LawForm}
+use Rattle.gas_model.specs.declared.law_forms.LawForm.TheVariants.{Drags, Equals, Shuts, Loses, Reduces, Raises}
 use Rattle.tree_cert.specs.declared.line.Rule.{Rule}
 use Rattle.tree_cert.specs.declared.line.Rule.TheVariants.{Balance, Pipe, Equal, Zero, Way, Inner, Fall, Order, Rise, Ratio, Sign, Reach, Along, Drop}
-use Rattle.tree_rules.specs.ArcRules.{ArcEnds, ArcVar, OfFlow, OfFrom, OfTo, arc_step, arc_closing}
+use Rattle.tree_rules.specs.declared.arc_vars.ArcEnds.{ArcEnds}
+use Rattle.tree_rules.specs.declared.arc_vars.ArcVar.{ArcVar}
+use Rattle.tree_rules.specs.declared.arc_vars.ArcVar.TheVariants.{OfFlow, OfFrom, OfTo}
+use Rattle.tree_rules.specs.ArcRules.{arc_step, arc_closing}
 use Rattle.tree_rules.specs.Rules.{PartBox, rule_holds, closing_at}
 use Rattle.tree_rules.specs.Examples.{node, arc}
 
@@ -46,15 +51,15 @@ back = record { q = ends (negsuc 4) (negsuc 1); u = ends (pos 25) (pos 100); v =
 
 -- a resistance of 1 to 2
 abbrev pub piped : LawForm
-piped = drags (record { lo = pos 1; hi = pos 2; den = pos 1 })
+piped = Drags (level (record { lo = pos 1; hi = pos 2; den = pos 1 }))
 
 -- at least 6 Pa before and at most 7 Pa behind; reduced by 2 to 3 Pa
 abbrev pub reduced : LawForm
-reduced = reduces (pos 6) (pos 7) (pos 2) (pos 3)
+reduced = Reduces (pos 6) (pos 7) (pos 2) (pos 3)
 
 -- the same, raised by at most 3 Pa and to 3 / 2 of the pressure
 abbrev pub raised : LawForm
-raised = raises (pos 6) (pos 7) (pos 3) (pos 2) (pos 3)
+raised = Raises (pos 6) (pos 7) (pos 3) (pos 2) (pos 3)
 
 -- With a flow of 2 to 5 the squares drop by 4 to 50. The root of 36 is that of 16 and 2, the root of 121 that of 64 and
 -- 3, and so on. A loss of 7 Pa is more than the pressures allow either way.
@@ -62,24 +67,24 @@ abbrev pub forward_values : List Value
 forward_values =
     lower Pipe piped OfFlow (negsuc 6) ∷ upper Pipe piped OfFlow (pos 10) ∷ lower Pipe piped OfFrom (pos 20) ∷ upper Pipe piped OfFrom (pos 114)
     ∷ lower Pipe piped OfTo (negsuc 24) ∷ upper Pipe piped OfTo (pos 96)
-    ∷ lower Equal equals OfFrom (pos 16) ∷ upper Equal equals OfFrom (pos 64) ∷ lower Equal equals OfTo (pos 25) ∷ upper Equal equals OfTo (pos 100)
-    ∷ lower Zero shuts OfFlow (pos 0) ∷ upper Zero shuts OfFlow (pos 0)
+    ∷ lower Equal Equals OfFrom (pos 16) ∷ upper Equal Equals OfFrom (pos 64) ∷ lower Equal Equals OfTo (pos 25) ∷ upper Equal Equals OfTo (pos 100)
+    ∷ lower Zero Shuts OfFlow (pos 0) ∷ upper Zero Shuts OfFlow (pos 0)
     ∷ lower Way reduced OfFlow (pos 0) ∷ lower Inner reduced OfFrom (pos 36) ∷ upper Inner reduced OfTo (pos 49)
     ∷ lower Fall reduced OfFrom (pos 36) ∷ upper Fall reduced OfFrom (pos 121) ∷ lower Fall reduced OfTo (pos 4) ∷ upper Fall reduced OfTo (pos 64)
     ∷ lower Way raised OfFlow (pos 0) ∷ lower Inner raised OfFrom (pos 36) ∷ upper Inner raised OfTo (pos 49)
     ∷ upper Order raised OfFrom (pos 64) ∷ lower Order raised OfTo (pos 25)
     ∷ lower Rise raised OfFrom (pos 1) ∷ upper Rise raised OfTo (pos 169)
     ∷ lower Ratio raised OfFrom (pos 7) ∷ upper Ratio raised OfTo (pos 225)
-    ∷ lower Sign (loses (pos 7) (pos 9)) OfFlow (pos 0) ∷ upper Sign (loses (pos 7) (pos 9)) OfFlow (pos 0)
-    ∷ lower Reach (loses (pos 2) (pos 3)) OfFrom (pos 1) ∷ upper Reach (loses (pos 2) (pos 3)) OfFrom (pos 121)
-    ∷ lower Reach (loses (pos 2) (pos 3)) OfTo (pos 4) ∷ upper Reach (loses (pos 2) (pos 3)) OfTo (pos 169)
-    ∷ lower Along (loses (pos 2) (pos 3)) OfFrom (pos 16) ∷ upper Along (loses (pos 2) (pos 3)) OfTo (pos 100)
-    ∷ lower Drop (loses (pos 2) (pos 3)) OfFrom (pos 36) ∷ upper Drop (loses (pos 2) (pos 3)) OfTo (pos 64) ∷ []
+    ∷ lower Sign (Loses (pos 7) (pos 9)) OfFlow (pos 0) ∷ upper Sign (Loses (pos 7) (pos 9)) OfFlow (pos 0)
+    ∷ lower Reach (Loses (pos 2) (pos 3)) OfFrom (pos 1) ∷ upper Reach (Loses (pos 2) (pos 3)) OfFrom (pos 121)
+    ∷ lower Reach (Loses (pos 2) (pos 3)) OfTo (pos 4) ∷ upper Reach (Loses (pos 2) (pos 3)) OfTo (pos 169)
+    ∷ lower Along (Loses (pos 2) (pos 3)) OfFrom (pos 16) ∷ upper Along (Loses (pos 2) (pos 3)) OfTo (pos 100)
+    ∷ lower Drop (Loses (pos 2) (pos 3)) OfFrom (pos 36) ∷ upper Drop (Loses (pos 2) (pos 3)) OfTo (pos 64) ∷ []
 
 abbrev pub back_values : List Value
 back_values =
-    upper Along (loses (pos 2) (pos 3)) OfFrom (pos 64) ∷ lower Along (loses (pos 2) (pos 3)) OfTo (pos 25)
-    ∷ upper Drop (loses (pos 2) (pos 3)) OfFrom (pos 36) ∷ lower Drop (loses (pos 2) (pos 3)) OfTo (pos 49) ∷ []
+    upper Along (Loses (pos 2) (pos 3)) OfFrom (pos 64) ∷ lower Along (Loses (pos 2) (pos 3)) OfTo (pos 25)
+    ∷ upper Drop (Loses (pos 2) (pos 3)) OfFrom (pos 36) ∷ lower Drop (Loses (pos 2) (pos 3)) OfTo (pos 49) ∷ []
 
 abbrev pub RulesGiveTheirValues : Type 0
 RulesGiveTheirValues = (list_all (gives (pos 1) forward) forward_values && list_all (gives (pos 1) back) back_values) ≡ true
@@ -97,14 +102,14 @@ sixteenth_values =
     ∷ lower Fall reduced OfFrom (pos 576) ∷ upper Fall reduced OfFrom (pos 1936) ∷ lower Fall reduced OfTo (pos 64) ∷ upper Fall reduced OfTo (pos 1024)
     ∷ lower Rise raised OfFrom (pos 16) ∷ upper Rise raised OfTo (pos 2704)
     ∷ lower Ratio raised OfFrom (pos 113) ∷ upper Ratio raised OfTo (pos 3600)
-    ∷ lower Sign (loses (pos 7) (pos 9)) OfFlow (pos 0) ∷ upper Sign (loses (pos 7) (pos 9)) OfFlow (pos 0)
-    ∷ lower Reach (loses (pos 2) (pos 3)) OfFrom (pos 16) ∷ upper Reach (loses (pos 2) (pos 3)) OfFrom (pos 1936)
-    ∷ lower Reach (loses (pos 2) (pos 3)) OfTo (pos 64) ∷ upper Reach (loses (pos 2) (pos 3)) OfTo (pos 2704)
-    ∷ lower Drop (loses (pos 2) (pos 3)) OfFrom (pos 576) ∷ upper Drop (loses (pos 2) (pos 3)) OfTo (pos 1024) ∷ []
+    ∷ lower Sign (Loses (pos 7) (pos 9)) OfFlow (pos 0) ∷ upper Sign (Loses (pos 7) (pos 9)) OfFlow (pos 0)
+    ∷ lower Reach (Loses (pos 2) (pos 3)) OfFrom (pos 16) ∷ upper Reach (Loses (pos 2) (pos 3)) OfFrom (pos 1936)
+    ∷ lower Reach (Loses (pos 2) (pos 3)) OfTo (pos 64) ∷ upper Reach (Loses (pos 2) (pos 3)) OfTo (pos 2704)
+    ∷ lower Drop (Loses (pos 2) (pos 3)) OfFrom (pos 576) ∷ upper Drop (Loses (pos 2) (pos 3)) OfTo (pos 1024) ∷ []
 
 -- a loss of 3 Pa just fits back from 8 to 5 Pa, and one of 6 Pa forward from 10 to 4
 abbrev pub no_signs_in_sixteenths : List Value
-no_signs_in_sixteenths = lower Sign (loses (pos 3) (pos 3)) OfFlow (negsuc 9) ∷ upper Sign (loses (pos 6) (pos 6)) OfFlow (pos 9) ∷ []
+no_signs_in_sixteenths = lower Sign (Loses (pos 3) (pos 3)) OfFlow (negsuc 9) ∷ upper Sign (Loses (pos 6) (pos 6)) OfFlow (pos 9) ∷ []
 
 abbrev pub RulesGiveTheirValuesInSixteenths : Type 0
 RulesGiveTheirValuesInSixteenths =
@@ -116,11 +121,11 @@ abbrev pub RulesGiveNothingElse : Type 0
 RulesGiveNothingElse = list_all (λ x. not (arc_step x.rule x.form (pos 1) forward x.of x.low x.value))
     (upper Way reduced OfFlow (pos 9) ∷ upper Inner reduced OfFrom (pos 900) ∷ lower Inner reduced OfTo (pos 0) ∷ lower Fall reduced OfFlow (negsuc 9)
     ∷ lower Order raised OfFrom (pos 0) ∷ upper Order raised OfTo (pos 900) ∷ upper Rise raised OfFrom (pos 900) ∷ lower Rise raised OfTo (pos 0)
-    ∷ upper Ratio raised OfFrom (pos 900) ∷ lower Ratio raised OfTo (pos 0) ∷ upper Along (loses (pos 2) (pos 3)) OfFrom (pos 900)
-    ∷ lower Along (loses (pos 2) (pos 3)) OfTo (pos 0) ∷ upper Drop (loses (pos 2) (pos 3)) OfFrom (pos 900) ∷ lower Drop (loses (pos 2) (pos 3)) OfTo (pos 0)
-    ∷ lower Sign (loses (pos 2) (pos 3)) OfFlow (negsuc 9) ∷ upper Sign (loses (pos 2) (pos 3)) OfFlow (pos 9)
-    ∷ lower Balance piped OfFlow (negsuc 9) ∷ lower Equal piped OfFrom (pos 0) ∷ lower Pipe equals OfFrom (pos 0) ∷ lower Fall raised OfFrom (pos 0)
-    ∷ lower Rise reduced OfFrom (pos 0) ∷ lower Zero equals OfFlow (negsuc 9) ∷ []) ≡ true
+    ∷ upper Ratio raised OfFrom (pos 900) ∷ lower Ratio raised OfTo (pos 0) ∷ upper Along (Loses (pos 2) (pos 3)) OfFrom (pos 900)
+    ∷ lower Along (Loses (pos 2) (pos 3)) OfTo (pos 0) ∷ upper Drop (Loses (pos 2) (pos 3)) OfFrom (pos 900) ∷ lower Drop (Loses (pos 2) (pos 3)) OfTo (pos 0)
+    ∷ lower Sign (Loses (pos 2) (pos 3)) OfFlow (negsuc 9) ∷ upper Sign (Loses (pos 2) (pos 3)) OfFlow (pos 9)
+    ∷ lower Balance piped OfFlow (negsuc 9) ∷ lower Equal piped OfFrom (pos 0) ∷ lower Pipe Equals OfFrom (pos 0) ∷ lower Fall raised OfFrom (pos 0)
+    ∷ lower Rise reduced OfFrom (pos 0) ∷ lower Zero Equals OfFlow (negsuc 9) ∷ []) ≡ true
 
 -- ---- closings
 -- a flow of q and squares of u to v, without a choice
@@ -147,12 +152,12 @@ ClosingsHoldPastTheirLaw = list_all (λ holds. holds)
     ∷ closes Fall reduced (at (pos 35) (pos 16)) ∷ stays Fall reduced (at (pos 36) (pos 16)) ∷ stays Fall reduced (at (pos 49) (pos 16)) ∷ closes Fall reduced (at (pos 50) (pos 16))
     ∷ stays Rise raised (at (pos 16) (pos 49)) ∷ closes Rise raised (at (pos 16) (pos 50))
     ∷ stays Ratio raised (at (pos 16) (pos 36)) ∷ closes Ratio raised (at (pos 16) (pos 37))
-    ∷ stays Reach (loses (pos 2) (pos 3)) (at (pos 16) (pos 49)) ∷ closes Reach (loses (pos 2) (pos 3)) (at (pos 16) (pos 50))
-    ∷ stays Reach (loses (pos 2) (pos 3)) (at (pos 49) (pos 16)) ∷ closes Reach (loses (pos 2) (pos 3)) (at (pos 50) (pos 16))
-    ∷ stays Drop (loses (pos 2) (pos 3)) (at (pos 36) (pos 16)) ∷ closes Drop (loses (pos 2) (pos 3)) (at (pos 35) (pos 16))
-    ∷ stays Drop (loses (pos 2) (pos 3)) (at_back (pos 16) (pos 36)) ∷ closes Drop (loses (pos 2) (pos 3)) (at_back (pos 16) (pos 35))
-    ∷ stays Equal equals (at (pos 1) (pos 2)) ∷ stays Zero shuts (at (pos 1) (pos 2)) ∷ stays Inner reduced (at (pos 1) (pos 900))
-    ∷ stays Order raised (at (pos 2) (pos 1)) ∷ stays Way reduced (at_back (pos 36) (pos 16)) ∷ stays Along (loses (pos 2) (pos 3)) (at (pos 1) (pos 2)) ∷ []) ≡ true
+    ∷ stays Reach (Loses (pos 2) (pos 3)) (at (pos 16) (pos 49)) ∷ closes Reach (Loses (pos 2) (pos 3)) (at (pos 16) (pos 50))
+    ∷ stays Reach (Loses (pos 2) (pos 3)) (at (pos 49) (pos 16)) ∷ closes Reach (Loses (pos 2) (pos 3)) (at (pos 50) (pos 16))
+    ∷ stays Drop (Loses (pos 2) (pos 3)) (at (pos 36) (pos 16)) ∷ closes Drop (Loses (pos 2) (pos 3)) (at (pos 35) (pos 16))
+    ∷ stays Drop (Loses (pos 2) (pos 3)) (at_back (pos 16) (pos 36)) ∷ closes Drop (Loses (pos 2) (pos 3)) (at_back (pos 16) (pos 35))
+    ∷ stays Equal Equals (at (pos 1) (pos 2)) ∷ stays Zero Shuts (at (pos 1) (pos 2)) ∷ stays Inner reduced (at (pos 1) (pos 900))
+    ∷ stays Order raised (at (pos 2) (pos 1)) ∷ stays Way reduced (at_back (pos 36) (pos 16)) ∷ stays Along (Loses (pos 2) (pos 3)) (at (pos 1) (pos 2)) ∷ []) ≡ true
 
 abbrev pub closes_16 : Rule → LawForm → ArcEnds → Bool
 closes_16 rule form e = arc_closing rule form (pos 16) e
@@ -169,11 +174,11 @@ ClosingsHoldPastTheirLawInSixteenths = list_all (λ holds. holds)
     ∷ closes_16 Fall reduced (at (pos 575) (pos 256)) ∷ stays_16 Fall reduced (at (pos 576) (pos 256)) ∷ stays_16 Fall reduced (at (pos 784) (pos 256)) ∷ closes_16 Fall reduced (at (pos 785) (pos 256))
     ∷ stays_16 Rise raised (at (pos 256) (pos 784)) ∷ closes_16 Rise raised (at (pos 256) (pos 785))
     ∷ stays_16 Ratio raised (at (pos 256) (pos 576)) ∷ closes_16 Ratio raised (at (pos 256) (pos 577))
-    ∷ stays_16 Reach (loses (pos 2) (pos 3)) (at (pos 256) (pos 784)) ∷ closes_16 Reach (loses (pos 2) (pos 3)) (at (pos 256) (pos 785))
-    ∷ stays_16 Reach (loses (pos 2) (pos 3)) (at (pos 784) (pos 256)) ∷ closes_16 Reach (loses (pos 2) (pos 3)) (at (pos 785) (pos 256))
-    ∷ stays_16 Drop (loses (pos 2) (pos 3)) (known (pos 1) (pos 576) (pos 256)) ∷ closes_16 Drop (loses (pos 2) (pos 3)) (known (pos 1) (pos 575) (pos 256))
-    ∷ stays_16 Drop (loses (pos 2) (pos 3)) (known (pos 0) (pos 575) (pos 256))
-    ∷ stays_16 Drop (loses (pos 2) (pos 3)) (known (negsuc 0) (pos 256) (pos 576)) ∷ closes_16 Drop (loses (pos 2) (pos 3)) (known (negsuc 0) (pos 256) (pos 575)) ∷ []) ≡ true
+    ∷ stays_16 Reach (Loses (pos 2) (pos 3)) (at (pos 256) (pos 784)) ∷ closes_16 Reach (Loses (pos 2) (pos 3)) (at (pos 256) (pos 785))
+    ∷ stays_16 Reach (Loses (pos 2) (pos 3)) (at (pos 784) (pos 256)) ∷ closes_16 Reach (Loses (pos 2) (pos 3)) (at (pos 785) (pos 256))
+    ∷ stays_16 Drop (Loses (pos 2) (pos 3)) (known (pos 1) (pos 576) (pos 256)) ∷ closes_16 Drop (Loses (pos 2) (pos 3)) (known (pos 1) (pos 575) (pos 256))
+    ∷ stays_16 Drop (Loses (pos 2) (pos 3)) (known (pos 0) (pos 575) (pos 256))
+    ∷ stays_16 Drop (Loses (pos 2) (pos 3)) (known (negsuc 0) (pos 256) (pos 576)) ∷ closes_16 Drop (Loses (pos 2) (pos 3)) (known (negsuc 0) (pos 256) (pos 575)) ∷ []) ≡ true
 
 -- ---- the balance of a node
 -- three arcs, of which the last enters the first node and the others leave it, and a supply of 2 to 3

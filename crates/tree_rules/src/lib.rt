@@ -2,6 +2,7 @@
 //! which passes by them, leaves no point.
 #![tactic(auto)]
 
+mod arc_vars;
 mod children;
 mod examples;
 mod ranges;
@@ -9,6 +10,7 @@ mod soundness;
 mod tightest;
 mod values;
 
+pub use arc_vars::{ArcEnds, ArcVar};
 pub use children::{arcs_have_their_states, groups_have_their_decisions, halves_meet};
 pub use examples::{
     drop_of_nine_cannot_carry_four, eight_is_out_of_reach_of_five, flow_of_five_is_not_known,

@@ -1,6 +1,6 @@
 // What is proved of the values that a rule may give, on functions that do nothing.
 ghost use Rattle.tree_rules.specs.Looser.{RulesLoosen, StepsLoosen};
-ghost use Rattle.tree_rules.specs.Roots.{EachAtMost, GreatestAtLeast, GreatestAtMost, LeastAtLeast, LeastAtMost, NoAtLeast};
+ghost use Rattle.tree_rules.specs.TightestRoots.{EachAtMost, GreatestAtLeast, GreatestAtMost, LeastAtLeast, LeastAtMost, NoAtLeast};
 
 /// The condition of a rule that holds for a value holds for each that is no tighter: each smaller one of a lower end,
 /// each larger one of an upper end.

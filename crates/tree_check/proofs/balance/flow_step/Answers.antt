@@ -18,11 +18,11 @@ supply_of-supply-requires-clause-high c = (node_supplies c.args.node_row.now (c.
 pub ends-q-requires : goal.ends-q-requires
 ends-q-requires c = (arc_vars c.args.p.now c.args.b.now.bounds c.args.arc c.args.row.now c.requires.fits.within c.requires.fits.bounds c.requires.row).q
 
-pub leaves_with-requires-clause-flow : goal.leaves_with-requires-clause-flow
-leaves_with-requires-clause-flow c = safe_flows c.args.b.now.scale c.ends-q.result c.ends-q.ensures.scale c.ends-q.ensures.limits
+pub balance_lets-requires-clause-flow : goal.balance_lets-requires-clause-flow
+balance_lets-requires-clause-flow c = safe_flows c.args.b.now.scale c.ends-q.result c.ends-q.ensures.scale c.ends-q.ensures.limits
 
-pub enters_with-requires-clause-flow : goal.enters_with-requires-clause-flow
-enters_with-requires-clause-flow c = safe_flows c.args.b.now.scale c.ends-q.result c.ends-q.ensures.scale c.ends-q.ensures.limits
+pub balance_lets-requires-then-row-node-2-clause-flow : goal.balance_lets-requires-then-row-node-2-clause-flow
+balance_lets-requires-then-row-node-2-clause-flow c = safe_flows c.args.b.now.scale c.ends-q.result c.ends-q.ensures.scale c.ends-q.ensures.limits
 
 pub returns-then-row-node : goal.returns-then-row-node
 returns-then-row-node c =
@@ -31,7 +31,7 @@ returns-then-row-node c =
     let supply = rw c.scale.ensures.value at (simp (to_z-of_z, scale) at c.supply_of-supply.ensures.value) in
     let lo = rw c.bounds.ensures.bounds at c.net_flow-net.ensures.lo in
     let hi = rw c.bounds.ensures.bounds at c.net_flow-net.ensures.hi in
-    (simp (to_z-of_z, c.ranges.value) at c.leaves_with.ensures)
+    (simp (to_z-of_z, c.ranges.value) at c.balance_lets.ensures)
     ∙ leaving_is c.args.node_row.now b.scale c.supply_of-supply.result c.net_flow-net.result c.ends-q.result (flow_lo b.bounds) (flow_hi b.bounds) c.args.node c.args.p.now.arcs c.args.arc c.args.row.now c.args.low c.args.value
     c.requires.row c.if-row-node.true supply lo hi (ap (λ (e : Ends). e.lo) c.ends-q.ensures.value) (ap (λ (e : Ends). e.hi) c.ends-q.ensures.value)
     ∙ flow_leaves c.args.p.now b c.args.node c.args.arc c.args.low c.args.value c.args.node_row.now c.args.row.now c.if-row-node.true
@@ -43,7 +43,7 @@ returns-then-row-node-2 c =
     let supply = rw c.scale.ensures.value at (simp (to_z-of_z, scale) at c.supply_of-supply.ensures.value) in
     let lo = rw c.bounds.ensures.bounds at c.net_flow-net.ensures.lo in
     let hi = rw c.bounds.ensures.bounds at c.net_flow-net.ensures.hi in
-    (simp (to_z-of_z, c.ranges.value) at c.enters_with.ensures)
+    (simp (to_z-of_z, c.ranges.value) at c.balance_lets-then-row-node-2.ensures)
     ∙ entering_is c.args.node_row.now b.scale c.supply_of-supply.result c.net_flow-net.result c.ends-q.result (flow_lo b.bounds) (flow_hi b.bounds) c.args.node c.args.p.now.arcs c.args.arc c.args.row.now c.args.low c.args.value
     c.requires.row c.if-row-node-2.true supply lo hi (ap (λ (e : Ends). e.lo) c.ends-q.ensures.value) (ap (λ (e : Ends). e.hi) c.ends-q.ensures.value)
     ∙ flow_enters c.args.p.now b c.args.node c.args.arc c.args.low c.args.value c.args.node_row.now c.args.row.now c.if-row-node.false c.if-row-node-2.true

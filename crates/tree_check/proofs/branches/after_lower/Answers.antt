@@ -1,6 +1,6 @@
 use Rattle.std.proofs.Common.{◌≡◌, ◌∙◌, sym, subst, rules, to_z-of_z, FitsSigned, IsTrue, true}
 use Rattle.std.specs.Int.{w128}
-use Rattle.gas_model.specs.declared.rows.Var.{Var}
+use Rattle.base_types.specs.declared.variables.Var.{Var}
 use Rattle.gas_model.specs.Boxes.{is_var}
 use Rattle.tree_rules.specs.Branches.{lies_inside}
 use Rattle.tree_check.specs.Undo.{IsLimited}

@@ -5,7 +5,7 @@ use Rattle.gas_model.specs.Choices.{fixed_state}
 use Rattle.gas_model.specs.declared.rows.PartState.{PartState}
 use Rattle.gas_model.specs.Rows.{Network}
 use Rattle.tree_rules.specs.NodeRules.{all_arcs}
-use Rattle.tree_rules.specs.Rules.{is_shut}
+use Rattle.gas_model.specs.Laws.{is_shut}
 use Rattle.tree_check.specs.Cuts.{is_cut_off}
 use Rattle.tree_check.proofs.CutNodes.{inside_more}
 use Rattle.tree_check.proofs.CutArcs.{passes_at_nodes, at_nodes_alone, all_stops, all_end}

@@ -1,29 +1,36 @@
 // Steps and closings by the law of an arc of a problem.
-ghost use Rattle.std.specs.Prelude.{◌≡◌, ℤ, false, option_map, slice_get, Some, IfSome};
+ghost use Rattle.std.specs.Prelude.{◌≡◌, ℤ, false, slice_get, Some, IfSome};
 ghost use Rattle.std.specs.Option.{option_map_or};
 ghost use Rattle.tree_rules.specs.Rules as spec;
-ghost use Rattle.box_rules.specs.ArcSides.{var_of_side, IsSafeAt};
+ghost use Rattle.box_rules.specs.ArcLimits.{IsSafeAt};
 ghost use Rattle.element_laws.specs.Sizes.{IsSafe};
 ghost use Rattle.tree_check.specs.Held.{IsBoxAt};
 
 use crate::lookup::arc_at;
 use crate::open_box::OpenBox;
-use box_rules::{Aim, ArcSide, fixed_form, form_closing, form_step, sides};
+use box_rules::{Aim, fixed_form, form_closing, form_step, sides};
 use gas_model::{ArcRow, Problem, Var};
 use tree_cert::Rule;
+use tree_rules::ArcVar;
 
 // Which variable of an arc it is, if it is one.
-fn side_of(arc: u32, row: &ArcRow, var: Var) -> Option<ArcSide>
-    ensures side { option_map var_of_side result ≡ spec.arc_var arc row.now var }
+fn side_of(arc: u32, row: &ArcRow, var: Var) -> Option<ArcVar>
+    ensures side { result ≡ spec.arc_var arc row.now var }
     ensures safe { (C : ℤ) → IsSafe var C → IfSome result (λ side. IsSafeAt side C) }
 {
     match var {
-        Var::Flow(of) => { if of == arc { Some(ArcSide::Flow) } else { None } }
+        Var::Flow(of) => {
+            if of == arc {
+                Some(ArcVar::OfFlow)
+            } else {
+                None
+            }
+        }
         Var::Square(node) => {
             if node == row.from {
-                Some(ArcSide::From)
+                Some(ArcVar::OfFrom)
             } else if node == row.to {
-                Some(ArcSide::To)
+                Some(ArcVar::OfTo)
             } else {
                 None
             }
