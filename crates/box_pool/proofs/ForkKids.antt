@@ -6,17 +6,17 @@ use Rattle.integer_laws.proofs.Ring.{linear, mul_add, mul_one}
 use Rattle.std.specs.Prelude.{◌==◌, slice_get, slice_set, is_none, is_some, int_lt, int_le}
 use Rattle.std.specs.List.{list_all, range_with_len}
 use Rattle.std.proofs.lemmas.Int.{ints}
-use Rattle.gas_model.specs.declared.rows.Allow.{Allow}
+use Rattle.base_types.specs.declared.states.Allow.{Allow}
 use Rattle.gas_model.specs.declared.rows.ArcKind.{ArcKind}
 use Rattle.gas_model.specs.declared.rows.ArcKind.TheVariants as kinds
 use Rattle.gas_model.specs.declared.rows.ArcRow.{ArcRow}
-use Rattle.gas_model.specs.declared.rows.ArcState.{ArcState}
+use Rattle.base_types.specs.declared.states.ArcState.{ArcState}
 use Rattle.gas_model.specs.declared.rows.Decision.{Decision}
 use Rattle.gas_model.specs.declared.rows.Group.{Group}
 use Rattle.gas_model.specs.declared.rows.PartState.{PartState}
 use Rattle.gas_model.specs.declared.rows.Ruling.{Ruling}
 use Rattle.gas_model.specs.declared.rows.Ends.{Ends}
-use Rattle.gas_model.specs.declared.rows.Var.{Var}
+use Rattle.base_types.specs.declared.variables.Var.{Var}
 use Rattle.gas_model.specs.Rows.{Network}
 use Rattle.gas_model.specs.Boxes.{Bounds, is_var, is_in_box, ends_of, width_of, may_become}
 use Rattle.gas_model.specs.Choices.{states_of, has_state, allowed_states, picks_allow, fixed_state, PartFits}
@@ -27,9 +27,11 @@ use Rattle.tree_rules.specs.Rules.{PartBox}
 use Rattle.tree_rules.specs.Branches.{Heads, Halves, with_pick, with_state, headed, decision_heads, after_head, same_head, same_var, lies_inside, lower_half, upper_half, rules_of}
 use Rattle.tree_rules.proofs.SameHeads.{heads_are_told_apart}
 use Rattle.tree_pool.specs.Rules.{AreExpected}
+use Rattle.tree_pool.proofs.Lists.{from_map, set_cases, there}
 use Rattle.topo.specs.States.{fixed_at}
 use Rattle.box_split.specs.declared.forks.Fork.TheVariants.{Group as GroupFork, Free, Halve}
-use Rattle.box_split.specs.Forks.{is_wide, middle}
+use Rattle.box_ends.specs.Middle.{middle}
+use Rattle.box_split.specs.Forks.{is_wide}
 use Rattle.std.specs.Int.{int_rem_euclid}
 use Rattle.gas_units.proofs.Quotients.{euclid_divides}
 use Rattle.box_pool.specs.Origins.{CanPick, CanHalve}
@@ -42,28 +44,10 @@ heads_expected p b (h ∷ heads) =
     let same : same_head h h ≡ true = (heads_are_told_apart h h).1 refl in
     (refl, rw same (refl, heads_expected p b heads))
 
-there : {A : Type 0} (xs : List A) (k : ℕ) → k < length xs → (x : A) × (slice_get xs k ≡ Some x)
-there [] k lt = absurd (omega arith)
-there (x ∷ xs) zero lt = (x, refl)
-there (x ∷ xs) (suc k) lt = there xs k (omega arith)
-
--- what stands at a place of a mapped list
-pub from_map : {A B : Type 0} (f : A → B) (xs : List A) (k : ℕ) (y : B) → slice_get (map f xs) k ≡ Some y → (x : A) × (slice_get xs k ≡ Some x) × (f x ≡ y)
-from_map f [] k y h = absurd cc
-from_map f (x ∷ xs) zero y h = (x, refl, cc)
-from_map f (x ∷ xs) (suc k) y h = from_map f xs k y h
-
-in_range : (a n k j : ℕ) → slice_get (range_with_len a n) k ≡ Some j → j < a + n
+pub in_range : (a n k j : ℕ) → slice_get (range_with_len a n) k ≡ Some j → j < a + n
 in_range a zero k j h = absurd cc
 in_range a (suc n) zero j h = let e : a ≡ j = cc in omega arith
 in_range a (suc n) (suc k) j h = let e = in_range (a + 1) n k j h in omega arith
-
-pub set_cases : {A : Type 0} (xs : List A) (n m : ℕ) (x y : A) → slice_get (slice_set xs n x) m ≡ Some y → ((m ≡ n) × (x ≡ y)) ⊎ (slice_get xs m ≡ Some y)
-set_cases [] n m x y h = absurd cc
-set_cases (z ∷ xs) zero zero x y h = inl (refl, cc)
-set_cases (z ∷ xs) zero (suc m) x y h = inr h
-set_cases (z ∷ xs) (suc n) zero x y h = inr h
-set_cases (z ∷ xs) (suc n) (suc m) x y h = elim (set_cases xs n m x y h) [ inl e ↦ inl (ap suc e.0, e.1) | inr e ↦ inr e ]
 
 some_of : {A : Type 0} (o : Option A) → is_none o ≡ true → is_some o ≡ false
 some_of None h = refl

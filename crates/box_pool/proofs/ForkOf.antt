@@ -3,8 +3,8 @@ use Rattle.std.proofs.Common.{◌≡◌, ℕ, zero, suc, ◌<◌, Bool, true, fa
 use Rattle.std.specs.Prelude.{Option, Some, None, is_none, if◌then◌else◌, nat_lt}
 use Rattle.std.proofs.lemmas.Bool.Decides.{nat_tests}
 use Rattle.gas_model.specs.declared.rows.PartState.{PartState}
-use Rattle.gas_model.specs.declared.rows.Var.{Var}
-use Rattle.gas_model.specs.declared.rows.Var.TheVariants.{Flow, Square}
+use Rattle.base_types.specs.declared.variables.Var.{Var}
+use Rattle.base_types.specs.declared.variables.Var.TheVariants.{Flow, Square}
 use Rattle.gas_model.specs.Rows.{Network}
 use Rattle.gas_model.specs.Rulings.{pick_in}
 use Rattle.gas_model.specs.Boxes.{Bounds, BoxFits, is_var, is_in_box}
@@ -14,24 +14,14 @@ use Rattle.topo.specs.States.{fixed_at}
 use Rattle.box_split.specs.declared.forks.Fork.{Fork}
 use Rattle.box_split.specs.declared.forks.Fork.TheVariants.{Group, Free, Least}
 use Rattle.box_split.specs.Forks.{first, or_else, if_none, is_wide, is_other, at_turn, halved, after, round, start, fork_of}
+use Rattle.box_split.proofs.Firsts.{found as first_found}
 use Rattle.box_split.proofs.Listed.{split_vars}
 use Rattle.box_split.proofs.Rounds.{begins_within}
 use Rattle.box_pool.specs.Forks.{IsForkOf}
 
 -- what is found passes, and lies below the count
-found_by : (t : ℕ → Bool) (n k : ℕ) → ((i : ℕ) → first t n ≡ Some i → (i < n) × (t i ≡ true)) → (o : Option ℕ) (b : Bool) → first t n ≡ o → t n ≡ b → or_else o (if b then Some n else None) ≡ Some k → (k < suc n) × (t k ≡ true)
-found_by t n k rest (Some i) b e is h =
-    let same : Some i ≡ Some k = h in
-    let z = rest k (e ∙ same) in
-    ((let a = z.0 in omega arith), z.1)
-found_by t n k rest None true e is h =
-    let c : n ≡ k = (let a : Some n ≡ Some k = h in cc) in
-    (omega arith, subst (λ (i : ℕ). t i ≡ true) c is)
-found_by t n k rest None false e is h = absurd (let a : None ≡ Some k = h in cc)
-
 pub found : (t : ℕ → Bool) (n k : ℕ) → first t n ≡ Some k → (k < n) × (t k ≡ true)
-found t zero k h = absurd cc
-found t (suc n) k h = found_by t n k (λ i e. found t n i e) (first t n) (t n) refl refl h
+found t n k h = let z = first_found t n k h in (z.within, z.passes)
 
 pub round_within : (n from k : ℕ) → from < n → k < n → round n from k < n
 round_within n from k f h = grind (arith, nat_tests)

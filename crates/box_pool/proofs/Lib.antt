@@ -4,3 +4,5 @@ pub mod ForkOf
 pub mod ForkKids
 pub mod Forked
 pub mod StillFits
+pub mod ViewKids
+pub mod KeptOf

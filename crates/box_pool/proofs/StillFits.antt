@@ -2,52 +2,31 @@
 use Rattle.std.proofs.Common.{◌≡◌, ◌≢◌, ℕ, zero, suc, List, [], ◌∷◌, length, Option, Some, None, refl, sym, ap, subst, ◌∙◌, inl, inr, length-set}
 use Rattle.std.specs.Prelude.{slice_get, slice_set, replicate, option_map, IfSome, true, false}
 use Rattle.std.specs.Rc.{rc_value}
-use Rattle.std.proofs.lemmas.List.{length-map}
+use Rattle.std.proofs.lemmas.List.{length-map, length-replicate}
 use Rattle.gas_model.specs.Rows.{Network}
 use Rattle.gas_model.specs.Within.{IsWithin}
 use Rattle.gas_model.specs.Boxes.{Bounds, BoxFits, opening, flow_ends, square_ends}
-use Rattle.gas_model.specs.declared.rows.Var.TheVariants.{Flow, Square}
+use Rattle.base_types.specs.declared.variables.Var.TheVariants.{Flow, Square}
 use Rattle.gas_model.specs.declared.rows.PartState.{PartState}
 use Rattle.gas_model.specs.Choices.{PartFits, fresh_part}
 use Rattle.tree_cert.specs.declared.line.Step.{Step}
 use Rattle.tree_cert.specs.declared.line.Head.{Head}
 use Rattle.tree_cert.specs.declared.line.Head.TheVariants.{Take, State, Half}
-use Rattle.tree_pool.proofs.Lists.{appended_cases}
+use Rattle.tree_pool.proofs.Lists.{appended_cases, from_map, set_cases}
 use Rattle.box_split.specs.declared.forks.Fork.{Fork}
 use Rattle.box_split.specs.declared.forks.Fork.TheVariants.{Group, Free, Halve, Least}
 use Rattle.box_split.specs.Forks.{fork_of}
 use Rattle.box_pool.specs.declared.pool.WorkEnd.TheVariants.{Split}
 use Rattle.box_pool.specs.declared.forks.Children.{Children}
-use Rattle.box_pool.specs.declared.spot.BoxView.{BoxView}
+use Rattle.box_pool.specs.declared.open_box.BoxView.{BoxView}
 use Rattle.box_pool.specs.Grid.{pool_scale}
 use Rattle.topo.specs.Shapes.{Layout, IsShapeOf}
 use Rattle.box_pool.specs.Forks.{by_of, heads_of, next_of, HasFork}
 use Rattle.box_pool.specs.Origins.{Origin, origin_by, part_by, bounds_by, CanPick, IsOrigin, IsViewOf}
 use Rattle.box_pool.specs.Pools.{Boxed, IsNew, PoolFits, Looks, ViewFits, IsGiven, for_halves, base_of, new_origins}
-use Rattle.box_pool.proofs.ForkKids.{from_map, set_cases}
 use Rattle.box_pool.proofs.Forked.{forks_are_expected}
 
 -- ---- a new pool
-
-nothing_at : {X : Type 0} (n k : ℕ) (x : X) → slice_get (replicate {A = Option X} n None) k ≡ Some (Some x) → ⊥
-nothing_at zero k x e = absurd cc
-nothing_at (suc n) zero x e = absurd cc
-nothing_at (suc n) (suc k) x e = nothing_at n k x e
-
-as_many : {X : Type 0} (n : ℕ) (x : X) → length (replicate n x) ≡ n
-as_many zero x = refl
-as_many (suc n) x = ap suc (as_many n x)
-
-pub fresh_fits : (p : Network) → PartFits p (fresh_part p)
-fresh_fits p = record {
-  picks = as_many (length p.groups) None;
-  states = as_many (length p.arcs) None;
-  within = λ k g j e s. absurd (nothing_at (length p.groups) k j s);
-  kinds = λ a row state e s. absurd (nothing_at (length p.arcs) a state s);
-}
-
-pub opening_fits : (p : Network) → BoxFits p (opening pool_scale p)
-opening_fits p = record { flows = length-map p.arcs (flow_ends pool_scale); squares = length-map p.nodes (square_ends pool_scale) }
 
 alone : (o q : Origin) (n : ℕ) → slice_get (Some o ∷ []) n ≡ Some (Some q) → o ≡ q
 alone o q zero h = cc
@@ -64,21 +43,21 @@ same_fits p old new same fits n o here = fits n o (rw same at here)
 
 -- ---- views
 
-bounds_fit : (p : Network) (b : Bounds) (h : Option Head) → BoxFits p b → BoxFits p (bounds_by b h)
+pub bounds_fit : (p : Network) (b : Bounds) (h : Option Head) → BoxFits p b → BoxFits p (bounds_by b h)
 bounds_fit p b None fits = fits
 bounds_fit p b (Some (Take k j)) fits = fits
 bounds_fit p b (Some (State a s)) fits = fits
 bounds_fit p b (Some (Half (Flow a) low C)) fits = record { flows = length-set _ _ _ ∙ fits.flows; squares = fits.squares }
 bounds_fit p b (Some (Half (Square n) low C)) fits = record { flows = fits.flows; squares = length-set _ _ _ ∙ fits.squares }
 
-part_fits : (p : Network) (part : PartState) (h : Option Head) → PartFits p part → CanPick p part h → PartFits p (part_by part h)
+pub part_fits : (p : Network) (part : PartState) (h : Option Head) → PartFits p part → CanPick p part h → PartFits p (part_by part h)
 part_fits p part None fits can = fits
 part_fits p part (Some (Take k j)) fits can = can.1
 part_fits p part (Some (State a s)) fits can = can.1
 part_fits p part (Some (Half v low C)) fits can = fits
 
 -- a view of a box that can be made fits the problem
-view_fits : (p : Network) (o : Origin) (v : BoxView) → IsOrigin p o → IsViewOf p o v → ViewFits p v
+pub view_fits : (p : Network) (o : Origin) (v : BoxView) → IsOrigin p o → IsViewOf p o v → ViewFits p v
 view_fits p o v is view =
     record {
       part = subst (PartFits p) (sym view.part) (part_fits p o.part o.head is.part is.picks);

@@ -10,9 +10,9 @@ use Rattle.tree_cert.specs.declared.line.Head.{Head}
 use Rattle.tree_cert.specs.declared.line.Head.TheVariants.{Take, State, Half}
 use Rattle.tree_rules.specs.Branches.{with_pick, with_state}
 use Rattle.tree_rules.specs.Rules.{PartBox}
-use Rattle.box_pool.specs.declared.spot.Base.{Base}
-use Rattle.box_pool.specs.declared.spot.Spot.{Spot}
-use Rattle.box_pool.specs.declared.spot.BoxView.{BoxView}
+use Rattle.box_pool.specs.declared.open_box.ParentBox.{ParentBox}
+use Rattle.box_pool.specs.declared.open_box.OpenBox.{OpenBox}
+use Rattle.box_pool.specs.declared.open_box.BoxView.{BoxView}
 
 -- a box that was split, after its steps, with the child's shape, where it is kept, and the turn of its children; and the
 -- head of the child. The root has none.
@@ -70,16 +70,16 @@ pub record IsOrigin (p : Network) (o : Origin) : Type 0 where
   pub halves : CanHalve o.bounds o.head
 
 -- what stands in the code
-abbrev pub origin_by : Base → Option Head → Origin
+abbrev pub origin_by : ParentBox → Option Head → Origin
 origin_by b h = record { part = b.part.value; shape = option_map rc_value b.shape; bounds = b.bounds.value; next = b.next; head = h }
 
-abbrev pub origin_of : Spot → Origin
+abbrev pub origin_of : OpenBox → Origin
 origin_of s = origin_by s.base.value s.head
 
-abbrev pub origins_of : List (Option Spot) → List (Option Origin)
+abbrev pub origins_of : List (Option OpenBox) → List (Option Origin)
 origins_of spots = map (option_map origin_of) spots
 
-abbrev pub child_origins : Base → List Head → List (Option Origin)
+abbrev pub child_origins : ParentBox → List Head → List (Option Origin)
 child_origins b heads = map (λ h. Some (origin_by b (Some h))) heads
 
 -- it is the box that comes from there, with its shape, its turn and its head

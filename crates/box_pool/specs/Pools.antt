@@ -13,11 +13,13 @@ use Rattle.tree_pool.specs.declared.node.WorkEnd.TheVariants as ends
 use Rattle.tree_pool.specs.Rows.{Row, first_row}
 use Rattle.tree_pool.specs.Calls.{IfRow, given_rows}
 use Rattle.box_split.specs.declared.forks.Fork.TheVariants.{Least}
+use Rattle.tree_rules.specs.Rules.{PartBox}
+use Rattle.box_pool.specs.Grid.{pool_scale}
 use Rattle.box_pool.specs.declared.pool.WorkEnd.{WorkEnd}
 use Rattle.box_pool.specs.declared.pool.WorkEnd.TheVariants.{Shut, Split, Left}
-use Rattle.box_pool.specs.declared.spot.BoxView.{BoxView}
+use Rattle.box_pool.specs.declared.open_box.BoxView.{BoxView}
 use Rattle.box_pool.specs.Forks.{by_of, heads_of, next_of, IsForkOf, HasFork}
-use Rattle.box_pool.specs.declared.spot.Base.{Base}
+use Rattle.box_pool.specs.declared.open_box.ParentBox.{ParentBox}
 use Rattle.box_pool.specs.Origins.{Origin, child_origins, IsOrigin, IsViewOf}
 
 -- What contracts see of a pool: its rows by number, and where the boxes come from that wait or are held.
@@ -46,6 +48,10 @@ pub record ViewFits (p : Network) (v : BoxView) : Type 0 where
   pub shape : IsShapeOf p v.part.value v.shape.value
   pub bounds : BoxFits p v.bounds.value
 
+-- the box of a view
+abbrev pub box_of_view : BoxView → PartBox
+box_of_view v = record { scale = pool_scale; part = v.part.value; bounds = v.bounds.value }
+
 -- the end is possible at the box that the work leaves: a split is by its fork
 abbrev pub CanEnd : Network → BoxView → WorkEnd → Type 0
 CanEnd p v (Shut c) = Unit {0}
@@ -65,7 +71,7 @@ for_halves (by.Arc a) x = None
 for_halves (by.Halves v) x = Some x
 
 -- where the children come from that have this turn; halves have the shape of the box, too
-abbrev pub base_of : BoxView → BranchBy → (next : ℕ) → Base
+abbrev pub base_of : BoxView → BranchBy → (next : ℕ) → ParentBox
 base_of v branch next = record { part = v.part; shape = for_halves branch v.shape; bounds = v.bounds; next = next }
 
 abbrev pub new_origins : Network → BoxView → WorkEnd → List (Option Origin)

@@ -6,14 +6,13 @@ mod choice;
 mod forks;
 mod grid;
 mod laws;
+mod open_box;
 mod pool;
-mod spot;
 
 pub use forks::{Children, children_of};
 pub use grid::{PoolGrid, first_line};
-pub use laws::{forks_are_expected, forks_are_of_the_problem};
+pub use laws::{
+    forks_are_expected, forks_are_of_the_problem, pools_keep_problems, pools_show_one_tree,
+};
+pub use open_box::{BoxView, shared};
 pub use pool::{Pool, Work, WorkEnd};
-pub use spot::{BoxView, shared};
-
-#[cfg(test)]
-mod tests;

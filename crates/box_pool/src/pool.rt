@@ -1,23 +1,29 @@
 // The pool of the boxes of a problem.
 ghost use Rattle.std.specs.Prelude.{◌≡◌, ℕ, ◌+◌, ◌<◌, ◌^◌, [], ◌∷◌, ◌++◌, Some, None, length, slice_set, IfOk, IfSome, IfNone, OnOk, OnErr};
+ghost use Rattle.gas_model.specs.Rows.{Network};
+ghost use Rattle.gas_model.specs.Within.{IsWithin};
 ghost use Rattle.gas_model.specs.Boxes.{BoxFits, opening};
 ghost use Rattle.gas_model.specs.Choices.{PartFits, fresh_part};
 ghost use Rattle.tree_cert.specs.Tree.{Tree, tree_lines};
 ghost use Rattle.tree_cert.specs.Spelling.{AreLines};
+ghost use Rattle.tree_rules.specs.Rules.{PartBox};
+ghost use Rattle.tree_rules.specs.Branches.{root_box};
 ghost use Rattle.box_pool.specs.Grid.{pool_scale, pool_line};
-ghost use Rattle.tree_pool.specs.Rows.{Waiting, Held, update, stand, splits, IsFirstWaiting, NoneWaits};
+ghost use Rattle.tree_pool.specs.Rows.{Waiting, Held, update, stand, splits, IsFirstWaiting, NoneWaits, IsMap};
 ghost use Rattle.tree_pool.specs.Calls.{IfRow, IsHeld, HasOrderedEnd, HasRoom, given_rows};
 ghost use Rattle.tree_pool.specs.Shown.{works, Shows};
 ghost use Rattle.tree_pool.specs.Lines.{IsLineOf};
+ghost use Rattle.tree_pool.specs.Laws.{ShowOneTree, IsWholeWhereNoneOpen};
 ghost use Rattle.box_pool.specs.Forks.{AreChildren};
 ghost use Rattle.box_pool.specs.Origins.{origins_of, origin_by, child_origins};
 ghost use Rattle.box_pool.specs.Pools.{Boxed, end_as, IsNew, PoolFits, Looks, ViewFits, CanEnd, IsGiven, SplitsNone, base_of};
+ghost use Rattle.box_pool.specs.PoolOf.{IsPoolOf, root_at, IsWorkOn};
 ghost use Rattle.tree_pool.specs.declared.node.WorkEnd.TheVariants as tree_ends;
 ghost use Rattle.box_split.specs.declared.forks.Fork.{Fork as AFork};
 
 use crate::forks::{Children, children_of};
 use crate::grid::{PoolGrid, first_line};
-use crate::spot::{Base, BoxView, Spot, shared, spots};
+use crate::open_box::{BoxView, OpenBox, ParentBox, shared, spots};
 use box_core::VarBox;
 use box_split::Fork;
 use gas_model::{Bytes, List, NoMemory, PartState, Problem};
@@ -46,8 +52,8 @@ pub struct Work {
 /// looked at; of the others only what is written is kept.
 #[derive(Drop)]
 pub struct Pool {
-    tree: tree_pool::Pool,
-    spots: Vec<Option<Spot>>,
+    tree: tree_pool::TreePool,
+    spots: Vec<Option<OpenBox>>,
 }
 
 impl Model for Pool {
@@ -63,7 +69,7 @@ impl Model for Pool {
 }
 
 // What the children have in common of a box that work left. The halves have its shape too.
-fn base_of(left: BoxView, by: BranchBy, next: u32) -> Base
+fn base_of(left: BoxView, by: BranchBy, next: u32) -> ParentBox
     ensures { result ≡ base_of left by next }
 {
     let BoxView {
@@ -77,7 +83,7 @@ fn base_of(left: BoxView, by: BranchBy, next: u32) -> Base
         BranchBy::Halves(_) => Some(shape),
         BranchBy::Group(_) | BranchBy::Arc(_) => None,
     };
-    Base {
+    ParentBox {
         part,
         shape,
         bounds,
@@ -86,11 +92,11 @@ fn base_of(left: BoxView, by: BranchBy, next: u32) -> Base
 }
 
 // One waiting box.
-fn one_spot(alloc: Global, base: Base) -> Result<Vec<Option<Spot>>, NoMemory>
+fn one_spot(alloc: Global, base: ParentBox) -> Result<Vec<Option<OpenBox>>, NoMemory>
     ensures { IfOk result (λ all. origins_of all.items ≡ Some (origin_by base None) ∷ []) }
 {
     let mut spots = Vec::new(alloc);
-    spots.push(Some(Spot {
+    spots.push(Some(OpenBox {
         base: shared(alloc, base)?,
         head: None,
     }))?;
@@ -100,9 +106,33 @@ fn one_spot(alloc: Global, base: Base) -> Result<Vec<Option<Spot>>, NoMemory>
 impl Pool {
     /// A pool of the root box alone, waiting: nothing is picked, no state is named, and all variables have their bounds.
     pub fn new(alloc: Global, p: &Problem) -> Result<Pool, NoMemory>
-        ensures { IfOk result (IsNew p.now (fresh_part p.now) (opening pool_scale p.now)) }
+        ensures new { IfOk result (IsNew p.now (fresh_part p.now) (opening pool_scale p.now)) }
+        ensures keeps { IfOk result (IsPoolOf p.now (root_box pool_scale p.now)) }
     {
         Pool::at(alloc, p, p.fresh()?, VarBox::opening(alloc, p)?)
+    }
+
+    // A pool of one box alone, waiting, with the turn 0.
+    fn of_one_box(
+        alloc: Global,
+        p: &Problem,
+        part: PartState,
+        bounds: VarBox<PoolGrid>,
+    ) -> Result<Pool, NoMemory>
+        requires part { PartFits p.now part }
+        ensures { IfOk result (IsNew p.now part bounds) }
+    {
+        let shape = Shape::of(alloc, p, &part)?;
+        let base = ParentBox {
+            part: shared(alloc, part)?,
+            shape: Some(shared(alloc, shape)?),
+            bounds: shared(alloc, bounds)?,
+            next: 0,
+        };
+        Ok(Pool {
+            tree: tree_pool::TreePool::new(alloc)?,
+            spots: one_spot(alloc, base)?,
+        })
     }
 
     /// A pool of one box alone, waiting, with the turn 0.
@@ -113,19 +143,10 @@ impl Pool {
         bounds: VarBox<PoolGrid>,
     ) -> Result<Pool, NoMemory>
         requires part { PartFits p.now part }
-        ensures { IfOk result (IsNew p.now part bounds) }
+        ensures new { IfOk result (IsNew p.now part bounds) }
+        ensures keeps { BoxFits p.now bounds → IfOk result (IsPoolOf p.now (root_at part bounds)) }
     {
-        let shape = Shape::of(alloc, p, &part)?;
-        let base = Base {
-            part: shared(alloc, part)?,
-            shape: Some(shared(alloc, shape)?),
-            bounds: shared(alloc, bounds)?,
-            next: 0,
-        };
-        Ok(Pool {
-            tree: tree_pool::Pool::new(alloc)?,
-            spots: one_spot(alloc, base)?,
-        })
+        Pool::of_one_box(alloc, p, part, bounds)
     }
 
     /// Holds the first waiting box in breadth-first order, and answers its number. `None` comes exactly where none waits.
@@ -133,6 +154,7 @@ impl Pool {
         ensures none { IfNone result (NoneWaits self.old.rows × (self.new.rows ≡ self.old.rows)) }
         ensures some { IfSome result (λ n. IsFirstWaiting self.old.rows n × (self.new.rows ≡ update self.old.rows n (stand Held))) }
         ensures origins { self.new.origins ≡ self.old.origins }
+        ensures keeps { (p : Network) (root : PartBox) → IsPoolOf p root self.old → IsPoolOf p root self.new }
     {
         self.tree.take()
     }
@@ -142,6 +164,7 @@ impl Pool {
         requires { IsHeld self.old.rows id }
         ensures rows { self.new.rows ≡ update self.old.rows id (stand Waiting) }
         ensures origins { self.new.origins ≡ self.old.origins }
+        ensures keeps { (p : Network) (root : PartBox) → IsPoolOf p root self.old → IsPoolOf p root self.new }
     {
         self.tree.lose(id);
     }
@@ -161,10 +184,12 @@ impl Pool {
         self.tree.depth_of(id)
     }
 
-    /// The text of the tree that the pool shows. A box that waits, is held or was left ends in `open`.
+    /// The text of the one tree that the pool shows. A box that waits, is held or was left ends in `open`.
     pub fn write(&self, alloc: Global) -> Result<Bytes, NoMemory>
-        ensures { IfOk result (λ bytes. (t : Tree) → Shows (works self.now.rows) [] t → AreLines bytes (tree_lines pool_line t)) }
+        ensures text { IfOk result (λ bytes. (t : Tree) → Shows (works self.now.rows) [] t → AreLines bytes (tree_lines pool_line t)) }
+        ensures shown { IfOk result (λ bytes. (t : Tree) × Shows (works self.now.rows) [] t × AreLines bytes (tree_lines pool_line t)) }
     {
+        self.tree.shows_one_tree();
         self.tree.write(alloc, &first_line())
     }
 
@@ -239,11 +264,8 @@ impl Pool {
         }
     }
 
-    /// Gives a held box back: its steps, its end, and what they leave of its view. The children of a split box get the next
-    /// unused numbers in order, and wait. All boxes have numbers below 2^32. The nodes of a cut ascend strictly, and are at
-    /// least one; a split is by the fork of the box that is left, which isn't `Least`. After want of memory the box is still
-    /// held, and the work is lost.
-    pub fn give_back(
+    // Puts work into a held box.
+    fn put_work(
         &mut self,
         alloc: Global,
         p: &Problem,
@@ -273,5 +295,39 @@ impl Pool {
                 self.end(alloc, id, tree_pool::Work { steps, end })
             }
         }
+    }
+
+    /// Gives a held box back: its steps, its end, and what they leave of its view. The children of a split box get the next
+    /// unused numbers in order, and wait. All boxes have numbers below 2^32. The nodes of a cut ascend strictly, and are at
+    /// least one; a split is by the fork of the box that is left, which isn't `Least`. Where the steps lead from that box to
+    /// the one that is left, with the same turn, and a closing holds there, the pool stays one of its problem and root. After
+    /// want of memory the box is still held, and the work is lost.
+    pub fn give_back(
+        &mut self,
+        alloc: Global,
+        p: &Problem,
+        id: u32,
+        work: Work,
+        left: BoxView,
+    ) -> Result<(), NoMemory>
+        requires held { IsHeld self.old.rows id }
+        requires ordered { HasOrderedEnd (end_as p.now left.part.value work.end) }
+        requires room { HasRoom self.old.rows (end_as p.now left.part.value work.end) }
+        requires end { CanEnd p.now left work.end }
+        ensures ok { OnOk result (IsGiven p.now self.old self.new id work.steps work.end left) }
+        ensures err { OnErr result (self.new ≡ self.old) }
+        ensures keeps { (root : PartBox) → IsWithin p.now → IsPoolOf p.now root self.old → IsWorkOn p.now self.old id work.steps work.end left → IsPoolOf p.now root self.new }
+    {
+        self.put_work(alloc, p, id, work, left)
+    }
+
+    /// The boxes of a pool are a map from paths, which shows one tree, whole exactly where no box waits, is held or was left.
+    pub fn shows_one_tree(&self)
+        ensures map { IsMap self.now.rows }
+        ensures small { length self.now.rows < 2 ^ 32 }
+        ensures one { ShowOneTree self.now.rows }
+        ensures whole { IsWholeWhereNoneOpen self.now.rows }
+    {
+        self.tree.shows_one_tree();
     }
 }

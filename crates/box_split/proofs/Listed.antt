@@ -8,7 +8,7 @@ use Rattle.std.proofs.lemmas.List.Folds.{list_all-append, list_all_at}
 use Rattle.std.proofs.lemmas.List.Recursion.{and_from_places}
 use Rattle.std.proofs.lemmas.List.Sums.{length-filter, count_by-le-length}
 use Rattle.gas_model.specs.declared.rows.PartState.{PartState}
-use Rattle.gas_model.specs.declared.rows.Var.TheVariants.{Flow, Square}
+use Rattle.base_types.specs.declared.variables.Var.TheVariants.{Flow, Square}
 use Rattle.gas_model.specs.Rows.{Network}
 use Rattle.gas_model.specs.Within.{IsWithin}
 use Rattle.gas_model.specs.Boxes.{Bounds, BoxFits, is_in_box}

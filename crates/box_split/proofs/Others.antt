@@ -3,8 +3,8 @@ use Rattle.std.proofs.Common.{◌≡◌, ℕ, suc, ◌<◌, ◌==◌, ◌&&◌, 
 use Rattle.std.specs.Prelude.{Option, None, Some, is_none}
 use Rattle.std.specs.List.{list_any}
 use Rattle.std.proofs.lemmas.Bool.{eqb-true}
-use Rattle.gas_model.specs.declared.rows.Var.{Var}
-use Rattle.gas_model.specs.declared.rows.Var.TheVariants.{Flow, Square}
+use Rattle.base_types.specs.declared.variables.Var.{Var}
+use Rattle.base_types.specs.declared.variables.Var.TheVariants.{Flow, Square}
 use Rattle.gas_model.specs.declared.rows.PartState.{PartState}
 use Rattle.gas_model.specs.Rows.{Network}
 use Rattle.gas_model.specs.Boxes.{Bounds}
@@ -16,14 +16,14 @@ use Rattle.box_split.specs.Parts.{halving}
 use Rattle.box_split.proofs.Firsts.{all_false, first_same}
 use Rattle.box_split.proofs.Rounds.{begins_within, came_round}
 
-var_of : (v w : Var) → same_var v w ≡ true → v ≡ w
+pub var_of : (v w : Var) → same_var v w ≡ true → v ≡ w
 var_of (Flow a) (Flow b) e = ap Flow (eqb-true a b e)
 var_of (Square a) (Square b) e = ap Square (eqb-true a b e)
 var_of (Flow a) (Square b) e = absurd cc
 var_of (Square a) (Flow b) e = absurd cc
 
 -- a variable of a list stands at some place of it
-place_in : (v : Var) (xs : List Var) → list_any (same_var v) xs ≡ true → (i : ℕ) × (i < length xs) × (get_or xs i no_var ≡ v)
+pub place_in : (v : Var) (xs : List Var) → list_any (same_var v) xs ≡ true → (i : ℕ) × (i < length xs) × (get_or xs i no_var ≡ v)
 place_in v [] e = absurd cc
 place_in v (x ∷ xs) e = by (same_var v x) refl e (place_in v xs)
   where

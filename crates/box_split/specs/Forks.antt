@@ -4,11 +4,12 @@ use Rattle.std.specs.List.{list_any}
 use Rattle.std.specs.Int.{int_div_euclid}
 use Rattle.gas_model.specs.declared.rows.Ends.{Ends}
 use Rattle.gas_model.specs.declared.rows.PartState.{PartState}
-use Rattle.gas_model.specs.declared.rows.Var.{Var}
-use Rattle.gas_model.specs.declared.rows.Var.TheVariants.{Flow, Square}
+use Rattle.base_types.specs.declared.variables.Var.{Var}
+use Rattle.base_types.specs.declared.variables.Var.TheVariants.{Flow, Square}
 use Rattle.gas_model.specs.Rows.{Network}
 use Rattle.gas_model.specs.Boxes.{Bounds, ends_of, width_of, is_in_box}
 use Rattle.gas_model.specs.Rulings.{pick_in}
+use Rattle.box_ends.specs.Middle.{middle}
 use Rattle.topo.specs.States.{fixed_at}
 use Rattle.tree_rules.specs.Branches.{same_var}
 use Rattle.box_split.specs.declared.forks.Fork.{Fork}
@@ -26,10 +27,6 @@ first p (suc k) = or_else (first p k) (if p k then Some k else None)
 -- a variable that can be halved
 abbrev pub is_wide : Bounds → Var → Bool
 is_wide b v = int_le (pos 2) (width_of (ends_of b v))
-
--- the sum of the ends, halved and rounded down
-abbrev pub middle : Ends → ℤ
-middle e = int_div_euclid (e.lo +ℤ e.hi) (pos 2)
 
 abbrev pub no_var : Var
 no_var = Flow 0

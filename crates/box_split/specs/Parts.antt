@@ -1,7 +1,7 @@
 -- Parts of the branch of a box, as the code goes through them.
 use Rattle.std.specs.Prelude.{ℕ, List, length}
-use Rattle.gas_model.specs.declared.rows.Var.{Var}
-use Rattle.gas_model.specs.declared.rows.Var.TheVariants.{Flow, Square}
+use Rattle.base_types.specs.declared.variables.Var.{Var}
+use Rattle.base_types.specs.declared.variables.Var.TheVariants.{Flow, Square}
 use Rattle.gas_model.specs.Rows.{Network}
 use Rattle.gas_model.specs.Boxes.{Bounds}
 use Rattle.box_split.specs.declared.forks.Fork.{Fork}

@@ -6,6 +6,3 @@ mod places;
 mod wide;
 
 pub use forks::{Fork, branch};
-
-#[cfg(test)]
-mod tests;

@@ -1,12 +1,13 @@
 // Variables that are wide enough to be halved.
 ghost use Rattle.std.specs.Prelude.{◌≡◌, ◌<◌, ◌≤◌, length, IfSome, IsTrue};
 ghost use Rattle.gas_model.specs.Boxes.{BoxFits, ends_of, is_in_box};
-ghost use Rattle.gas_model.specs.declared.rows.Var.TheVariants.{Flow, Square};
-ghost use Rattle.box_split.specs.Forks.{AreVars, at_turn, first, is_wide, middle};
+ghost use Rattle.base_types.specs.declared.variables.Var.TheVariants.{Flow, Square};
+ghost use Rattle.box_split.specs.Forks.{AreVars, at_turn, first, is_wide};
+ghost use Rattle.box_ends.specs.Middle.{middle};
 
 use crate::places::place_at;
 use box_core::VarBox;
-use gas_model::{Problem, Var};
+use gas_model::{Ends, Problem, Var};
 use interval_core::Grid;
 
 fn is_wide<G: Grid>(b: &VarBox<G>, var: Var) -> bool
@@ -22,7 +23,7 @@ pub fn middle<G: Grid>(b: &VarBox<G>, var: Var) -> i128
     ensures { result ≡ middle (ends_of b.now var) }
 {
     let (lo, hi) = b.ends(var);
-    (lo + hi).div_euclid(2)
+    box_ends::middle(Ends { lo, hi })
 }
 
 /// How far from the turn the first wide variable of the split list is.

@@ -2,7 +2,7 @@
 use Rattle.std.proofs.Common.{◌≡◌, ◌≢◌, ℕ, zero, suc, List, [], ◌∷◌, length, Some, None, Ok, Err, refl, sym, ap, subst, ◌∙◌, ℤ}
 use Rattle.std.specs.Prelude.{slice_get, Result, IfOk}
 use Rattle.std.proofs.lemmas.Option.{slice_get_within}
-use Rattle.gas_model.specs.declared.collections.NoMemory.{NoMemory}
+use Rattle.base_types.specs.declared.collections.NoMemory.{NoMemory}
 use Rattle.gas_model.specs.Rows.{Network}
 use Rattle.tree_rules.specs.Rules.{PartBox}
 use Rattle.tree_rules.specs.Branches.{rules_of}
@@ -26,15 +26,13 @@ use Rattle.nom_search.specs.declared.searching.Found.{Found}
 use Rattle.nom_search.specs.declared.searching.Found.TheVariants as found
 use Rattle.nom_search.specs.declared.searching.Outcome.{Outcome}
 use Rattle.nom_search.specs.declared.searching.Outcome.TheVariants as outcome
+use Rattle.box_pool.specs.PoolOf.{IsPoolOf}
+use Rattle.box_pool.proofs.KeptOf.{only, new_of}
 
 -- ---- a new pool
 
 abbrev first_origin : (p : Network) (root : PartBox) (pool : Boxed) → Begins p root pool → Origin
 first_origin p root pool b = record { part = root.part; shape = Some b.new.shape; bounds = root.bounds; next = 0; head = None }
-
-only : {A : Type 0} (x y : A) (n : ℕ) → slice_get (x ∷ []) n ≡ Some y → (n ≡ 0) × (y ≡ x)
-only x y zero h = (refl, cc)
-only x y (suc n) h = absurd cc
 
 rescaled : (b : PartBox) (K : ℤ) → b.scale ≡ K → b ≡ record { scale = K; part = b.part; bounds = b.bounds }
 rescaled b K e = ap (λ (k : ℤ). record { scale = k; part = b.part; bounds = b.bounds }) e
@@ -68,6 +66,9 @@ begins_searched p tol root budget pool b =
       };
     }
 
+pub begins_of : (p : Network) (root : PartBox) (pool : Boxed) → Begins p root pool → IsPoolOf p root pool
+begins_of p root pool b = subst (λ (r : PartBox). IsPoolOf p r pool) (sym (rescaled root pool_scale b.scale)) (new_of p root.part root.bounds pool b.part b.bounds b.new)
+
 pub begins_fresh : (p : Network) (root : PartBox) (pool : Boxed) → Begins p root pool → NoneQuit pool.rows
 begins_fresh p root pool b m q h quit =
     let rows : pool.rows ≡ first_row ∷ [] = b.new.rows in
@@ -85,10 +86,6 @@ names_box p tol root budget pool (outcome.Carried s) e = tt
 
 -- ---- answers
 
-pub if_ok_map : {A : Type 0} (r : Result A NoMemory) (P Q : A → Type 0) → ((x : A) → P x → Q x) → IfOk r P → IfOk r Q
-if_ok_map (Ok x) P Q f h = f x h
-if_ok_map (Err e) P Q f h = h
-
 shut_end : (e : Standing) → e ≢ Waiting → e ≢ Held → e ≢ Quit → end_of e ≢ Opens
 shut_end Waiting w h q k = w refl
 shut_end Held w h q k = h refl
@@ -96,11 +93,11 @@ shut_end Quit w h q k = q refl
 shut_end (Shuts c) w h q k = cc
 shut_end (Splits f first count) w h q k = cc
 
-halt_found : (p : Network) (tol : ℤ) (root : PartBox) (budget : ℕ) (pool : Boxed) (why : Why) (n : ℕ) (f : Found) (boxes : List PartBox) (turns : List ℕ) → IsMap pool.rows → IsOf (rules_of p) root pool.rows boxes → HaltsAt p tol root budget why pool.rows boxes turns n
+halt_found : (p : Network) (tol : ℤ) (root : PartBox) (budget : ℕ) (pool : Boxed) (why : Why) (n : ℕ) (f : Found) (boxes : List PartBox) (turns : List ℕ) → IsMap pool.rows → IsOf (rules_of p) root pool.rows boxes → slice_get turns 0 ≡ Some 0 → HaltsAt p tol root budget why pool.rows boxes turns n
     → IsHalt pool.rows why n f → Answers p tol root budget pool f
-halt_found p tol root budget pool why n (found.Carried s) boxes turns map of_root halts h = absurd h
-halt_found p tol root budget pool why n (found.Refuted text) boxes turns map of_root halts h = absurd h
-halt_found p tol root budget pool why n (found.Left w text line) boxes turns map of_root halts h =
+halt_found p tol root budget pool why n (found.Carried s) boxes turns map of_root first halts h = absurd h
+halt_found p tol root budget pool why n (found.Refuted text) boxes turns map of_root first halts h = absurd h
+halt_found p tol root budget pool why n (found.Left w text line) boxes turns map of_root first halts h =
     let t = (show_one_tree pool.rows map).0 in
     subst (λ (k : Why). Halted p tol root budget k pool.rows text line) (sym h.0)
     (record {
@@ -108,6 +105,7 @@ halt_found p tol root budget pool why n (found.Left w text line) boxes turns map
       turns = turns;
       map = map;
       of_root = of_root;
+      first = first;
       tree = t.0;
       is_text = record { shows = t.1; lines = h.1 t.0 t.1 };
       named = n;
@@ -123,7 +121,7 @@ none_open p tol root budget pool s waits quits n r here =
     (quits n r here)
 
 pub answers_are : (p : Network) (tol : ℤ) (root : PartBox) (budget : ℕ) (pool : Boxed) (o : Outcome) (f : Found) → Ends p tol root budget pool (Ok o) → IsFound pool.rows o f → Answers p tol root budget pool f
-answers_are p tol root budget pool (outcome.Dry (Some n)) f e h = halt_found p tol root budget pool Grid n f e.0.boxes e.0.turns e.0.worked.map e.0.worked.pool (e.0.worked, e.1, e.2) h
+answers_are p tol root budget pool (outcome.Dry (Some n)) f e h = halt_found p tol root budget pool Grid n f e.0.boxes e.0.turns e.0.worked.map e.0.worked.pool e.0.worked.first (e.0.worked, e.1, e.2) h
 answers_are p tol root budget pool (outcome.Dry None) f e h =
     let map = e.0.worked.map in
     let t = (show_one_tree pool.rows map).0 in
@@ -137,5 +135,5 @@ answers_are p tol root budget pool (outcome.Dry None) f e h =
       passes = shown_pass (rules_of p) root pool.rows e.0.boxes map e.0.worked.pool t.0 t.1;
       closed = (whole_where_none_open pool.rows map t.0 t.1).1 (none_open p tol root budget pool e.0 e.1 e.2);
     })
-answers_are p tol root budget pool (outcome.Full n) f e h = halt_found p tol root budget pool Budget n f e.boxes e.turns e.map e.of_root e.stops h
+answers_are p tol root budget pool (outcome.Full n) f e h = halt_found p tol root budget pool Budget n f e.boxes e.turns e.map e.of_root e.first e.stops h
 answers_are p tol root budget pool (outcome.Carried s) f e h = subst (Answers p tol root budget pool) (sym h) e

@@ -1,6 +1,6 @@
 -- One turn of the loop over the boxes of a pool.
 use Rattle.std.proofs.Common.{◌≡◌, ◌≢◌, ℕ, ◌+◌, ◌*◌, ◌-◌, ◌<◌, ◌≤◌, List, ◌++◌, map, length, Option, Some, None, Ok, refl, sym, ap, subst, ◌∙◌, inl, inr, ℤ}
-use Rattle.std.specs.Prelude.{slice_get}
+use Rattle.std.specs.Prelude.{slice_get, replicate}
 use Rattle.std.specs.Option.{option_or}
 use Rattle.gas_model.specs.Rows.{Network}
 use Rattle.gas_model.specs.Within.{IsWithin}
@@ -13,7 +13,7 @@ use Rattle.tree_pool.specs.Rows.{Row, Held, IsMap, update, stand, splits, IsFirs
 use Rattle.tree_pool.specs.Calls.{IsHeld, given_rows}
 use Rattle.tree_pool.proofs.Lists.{get_updated, length-update}
 use Rattle.search_order.specs.Searches.{IsLeft, FirstQuit}
-use Rattle.search_order.specs.Turns.{IsFull, remains, repeated}
+use Rattle.search_order.specs.Turns.{IsFull, remains}
 use Rattle.search_order.specs.Laws.{quit_then}
 use Rattle.search_order.proofs.Counts.{splits_taken, turns_shrink}
 use Rattle.search_order.proofs.Quits.{first_quit_stays}
@@ -22,22 +22,22 @@ use Rattle.box_pool.specs.declared.pool.WorkEnd.{WorkEnd}
 use Rattle.box_pool.specs.declared.pool.WorkEnd.TheVariants.{Shut, Split, Left}
 use Rattle.box_pool.specs.Grid.{pool_scale}
 use Rattle.box_pool.specs.Origins.{Origin, box_of, turn_of}
-use Rattle.box_pool.specs.Pools.{Boxed, PoolFits, end_as}
+use Rattle.box_pool.specs.Pools.{Boxed, PoolFits, end_as, box_of_view}
 use Rattle.box_split.specs.Forks.{fork_of}
 use Rattle.topo.specs.Shapes.{Layout}
 use Rattle.topo.proofs.OnlyOne.{one_shape}
 use Rattle.gas_model.specs.declared.rows.Setting.{Setting}
 use Rattle.gas_model.specs.Near.{IsNear, SettingFits}
 use Rattle.tree_pool.specs.Rules.{IsOf}
-use Rattle.tree_pool.proofs.Kept.{KeepsPlace, map_updated}
+use Rattle.tree_pool.proofs.RowChanges.{KeepsPlace, map_updated}
 use Rattle.tree_pool.proofs.Ruled.{standing_keeps}
-use Rattle.search_order.proofs.Given.{waiting_whole}
-use Rattle.nom_search.specs.Halted.{IsStillOf}
+use Rattle.tree_pool.proofs.PoolKeeps.{waiting_whole}
 use Rattle.nom_search.specs.Sought.{sought, IsLeast}
-use Rattle.nom_search.specs.Searched.{box_of_view, AreOfStable, IsSearched, IsStopped, IsWork, IsUnpaid, Turns}
+use Rattle.nom_search.specs.Searched.{AreOfStable, IsSearched, IsStopped, IsWork, IsUnpaid, Turns}
 use Rattle.nom_search.specs.declared.searching.Turn.{Turn}
 use Rattle.nom_search.specs.declared.searching.Turn.TheVariants as kinds
-use Rattle.nom_search.proofs.Turned.{kids_by, next_by, turn, searched_after}
+use Rattle.box_pool.proofs.ViewKids.{kids_by, next_by}
+use Rattle.nom_search.proofs.Turned.{turn, searched_after}
 
 quit_same : (quit : Option ℕ) (n : ℕ) (e : tree.WorkEnd) → e ≢ ends.Left → quit_then quit n e ≡ quit
 quit_same (Some m) n e ne = refl
@@ -86,12 +86,12 @@ module _ (p : Network) (within : IsWithin p) (tol : ℤ) (budget : ℕ) (old tak
     module _ (new : Boxed) (end : WorkEnd) (w : IsWork p tol budget taken new n end) where
       pub shrinks : (remains 1024 budget new.rows < remains 1024 budget old.rows) × (splits new.rows ≤ budget) × (length new.rows + 1024 * (budget - splits new.rows) ≤ length old.rows + 1024 * (budget - splits old.rows))
       shrinks =
-          turns_shrink (sought p tol) root 1024 budget old.rows searched.boxes searched.turns new.rows (searched.boxes ++ map (λ k. k.1) (kids_by p w.view end)) (searched.turns ++ repeated (length (kids_by p w.view end)) (next_by end)) n (end_as p w.view.part.value end) first
+          turns_shrink (sought p tol) root 1024 budget old.rows searched.boxes searched.turns new.rows (searched.boxes ++ map (λ k. k.1) (kids_by p w.view end)) (searched.turns ++ replicate (length (kids_by p w.view end)) (next_by end)) n (end_as p w.view.part.value end) first
           (turn p within tol root budget old taken new n end searched first rows_taken same_origins w)
 
       pub quits : (quit : Option ℕ) → FirstQuit old.rows quit → FirstQuit new.rows (quit_then quit n (end_as p w.view.part.value end))
       quits quit h =
-          first_quit_stays (sought p tol) root 1024 budget old.rows searched.boxes searched.turns new.rows (searched.boxes ++ map (λ k. k.1) (kids_by p w.view end)) (searched.turns ++ repeated (length (kids_by p w.view end)) (next_by end)) n (end_as p w.view.part.value end) quit searched.worked first
+          first_quit_stays (sought p tol) root 1024 budget old.rows searched.boxes searched.turns new.rows (searched.boxes ++ map (λ k. k.1) (kids_by p w.view end)) (searched.turns ++ replicate (length (kids_by p w.view end)) (next_by end)) n (end_as p w.view.part.value end) quit searched.worked first
           (turn p within tol root budget old taken new n end searched first rows_taken same_origins w) h
 
       pub quits_not : end ≢ Left → (quit : Option ℕ) → FirstQuit old.rows quit → FirstQuit new.rows quit
@@ -130,38 +130,9 @@ module _ (p : Network) (within : IsWithin p) (tol : ℤ) (budget : ℕ) (old tak
           rows_are = given.2;
         }) in
         let s = full_stops (sought p tol) root budget old.rows searched.boxes searched.turns new.rows n searched.worked first full in
-        record { boxes = searched.boxes; turns = searched.turns; map = s.1; of_root = s.2; stops = s.0 }
+        record { boxes = searched.boxes; turns = searched.turns; map = s.1; of_root = s.2; first = searched.worked.first; stops = s.0 }
       where
         not_least : IsLeast p u.view.turn (box_of_view u.view) → ⊥
         not_least least =
             let s = one_shape p u.view.part.value least.shape u.has.shape least.is_shape u.has.is_shape in
             u.wide (u.has.fork_is ∙ ap (λ (k : Layout). fork_of p k.split_list u.view.part.value u.view.bounds.value u.view.turn) (sym s) ∙ sym least.fork_is)
-
--- ---- the pool is still of its root
-
-pub searched_still : (p : Network) (tol : ℤ) (root : PartBox) (budget : ℕ) (pool : Boxed) → IsSearched p tol root budget pool → IsStillOf p root pool
-searched_still p tol root budget pool h = record { boxes = h.boxes; map = h.worked.map; of_root = h.worked.pool }
-
-pub stopped_still : (p : Network) (tol : ℤ) (root : PartBox) (budget : ℕ) (pool : Boxed) (n : ℕ) → IsStopped p tol root budget pool n → IsStillOf p root pool
-stopped_still p tol root budget pool n h = record { boxes = h.boxes; map = h.map; of_root = h.of_root }
-
-pub taken_still : (p : Network) (tol : ℤ) (root : PartBox) (budget : ℕ) (old taken new : Boxed) (n : ℕ) → IsSearched p tol root budget old → IsFirstWaiting old.rows n → taken.rows ≡ update old.rows n (stand Held) → new ≡ taken → IsStillOf p root new
-taken_still p tol root budget old taken new n h first rows_taken same =
-    let keeps : KeepsPlace first.row (stand Held) = record { path = refl; head = refl; before = waiting_whole first.row.standing first.waits } in
-    let rows = ap (λ (b : Boxed). b.rows) same ∙ rows_taken in
-    record {
-      boxes = h.boxes;
-      map = subst IsMap (sym rows) (map_updated old.rows h.worked.map n first.row first.here (stand Held) keeps (λ f a b k. cc));
-      of_root = subst (λ (rs : List Row). IsOf (rules_of p) root rs h.boxes) (sym rows) (standing_keeps (rules_of p) root old.rows h.boxes n first.row Held h.worked.map h.worked.pool first.here (inl first.waits) (inr refl));
-    }
-
-pub carried_is : (p : Network) (tol : ℤ) (budget : ℕ) (old new : Boxed) (n : ℕ) (t : Turn) (s : Setting) → t ≡ kinds.Carried s → Turns p tol budget old new n (Ok t) → IsNear p tol s × SettingFits p s × (new ≡ old)
-carried_is p tol budget old new n t s is h = subst (λ (k : Turn). Turns p tol budget old new n (Ok k)) is h
-
-pub rows_still : (p : Network) (root : PartBox) (old new : Boxed) → IsStillOf p root old → new.rows ≡ old.rows → IsStillOf p root new
-rows_still p root old new h same =
-    record {
-      boxes = h.boxes;
-      map = subst IsMap (sym same) h.map;
-      of_root = subst (λ (rs : List Row). IsOf (rules_of p) root rs h.boxes) (sym same) h.of_root;
-    }

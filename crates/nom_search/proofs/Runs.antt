@@ -11,9 +11,7 @@ use Rattle.gas_model.specs.declared.rows.ArcKind.TheVariants as kinds
 use Rattle.gas_model.specs.declared.rows.ArcRow.{ArcRow}
 use Rattle.gas_model.specs.declared.rows.Group.{Group}
 use Rattle.gas_model.specs.declared.rows.PartState.{PartState}
-use Rattle.gas_model.specs.declared.rows.Var.TheVariants.{Flow, Square}
 use Rattle.gas_model.specs.Rows.{Network}
-use Rattle.gas_model.specs.Boxes.{BoxFits}
 use Rattle.gas_model.specs.Choices.{states_of, allowed_states, picks_allow, fixed_state}
 use Rattle.gas_model.specs.Within.{IsWithin}
 use Rattle.tree_cert.specs.declared.line.Step.{Step}
@@ -23,12 +21,11 @@ use Rattle.tree_cert.specs.declared.line.Head.TheVariants.{Take, State}
 use Rattle.tree_cert.specs.declared.line.Line.TheVariants as lines
 use Rattle.tree_cert.specs.Spelling.{has_ordered_cut, is_node_list, ascends_after}
 use Rattle.tree_rules.specs.NodeRules.{are_cut_nodes, all_arcs, crosses, is_unbalanced}
-use Rattle.tree_rules.specs.Rules.{PartBox, step_holds, stepped, after_step, closing_holds, is_shut}
+use Rattle.tree_rules.specs.Rules.{PartBox, step_holds, stepped, after_step, closing_holds}
+use Rattle.gas_model.specs.Laws.{is_shut}
 use Rattle.tree_rules.specs.Branches.{rules_of, decision_heads}
 use Rattle.tree_pool.specs.Rules.{after_steps}
 use Rattle.stable_sweep.specs.Runs.{after, AreTurns}
-use Rattle.stable_sweep.specs.Settling.{IsStable}
-use Rattle.box_ends.specs.Empty.{LeavesAll}
 use Rattle.box_split.specs.declared.forks.Fork.{Fork}
 use Rattle.box_split.specs.declared.forks.Fork.TheVariants.{Group as GroupFork, Free, Halve, Least}
 use Rattle.box_pool.specs.Forks.{heads_of, state_heads}
@@ -58,13 +55,9 @@ ordered_closing p b (Cut ns) h =
 
 -- ---- a stable box leaves a value to each variable
 
-pub stable_filled : (p : Network) (b : PartBox) → BoxFits p b.bounds → IsStable p b → LeavesAll b.bounds
-stable_filled p b fits stable (Flow a) h = stable.filled (Flow a) (let e = fits.flows in rw e at h)
-stable_filled p b fits stable (Square n) h = stable.filled (Square n) (let e = fits.squares in rw e at h)
-
 -- ---- few children
 
-filter_short : {A : Type 0} (t : A → Bool) (xs : List A) → length (filter t xs) ≤ length xs
+pub filter_short : {A : Type 0} (t : A → Bool) (xs : List A) → length (filter t xs) ≤ length xs
 filter_short t [] = omega arith
 filter_short t (x ∷ xs) = by (t x) (filter_short t xs)
   where
@@ -72,7 +65,7 @@ filter_short t (x ∷ xs) = by (t x) (filter_short t xs)
     by true h = omega arith
     by false h = omega arith
 
-few_states : (kind : ArcKind) → length (states_of kind) ≤ 3
+pub few_states : (kind : ArcKind) → length (states_of kind) ≤ 3
 few_states (kinds.Pipe law) = omega arith
 few_states kinds.Short = omega arith
 few_states (kinds.Resist law) = omega arith

@@ -1,6 +1,6 @@
 -- What a turn comes to, as the search sees it.
 use Rattle.std.proofs.Common.{◌≡◌, ◌≢◌, ℕ, zero, suc, ◌+◌, ◌*◌, ◌<◌, ◌≤◌, List, [], ◌∷◌, ◌++◌, map, length, Option, Some, None, refl, sym, ap, subst, ◌∙◌, inl, inr, arith, length-append, length-set, true, false, ℤ}
-use Rattle.std.specs.Prelude.{slice_get, slice_set}
+use Rattle.std.specs.Prelude.{slice_get, slice_set, replicate}
 use Rattle.std.specs.List.{range_with_len}
 use Rattle.std.specs.Option.{option_map_or}
 use Rattle.std.proofs.lemmas.Option.{slice_get_within}
@@ -21,59 +21,34 @@ use Rattle.tree_pool.specs.declared.node.BranchBy.{BranchBy}
 use Rattle.tree_pool.specs.declared.node.BranchBy.TheVariants as by
 use Rattle.tree_pool.specs.declared.node.WorkEnd as tree
 use Rattle.tree_pool.specs.Rows.{Row, Waiting, Held, update, stand, fill, after, splits, IsFirstWaiting}
-use Rattle.tree_pool.specs.Laws.{EndFits}
+use Rattle.tree_pool.specs.Laws.{EndFits, heads_by}
 use Rattle.tree_pool.specs.Calls.{given_rows}
-use Rattle.tree_pool.proofs.Lists.{get_left, get_right, appended_cases}
-use Rattle.tree_pool.proofs.Kept.{origin}
+use Rattle.tree_pool.proofs.Lists.{get_left, get_right, appended_cases, from_map, to_map, get_replicate, set_other, set_some}
+use Rattle.tree_pool.proofs.RowChanges.{origin}
 use Rattle.box_split.specs.declared.forks.Fork.{Fork}
 use Rattle.box_split.specs.declared.forks.Fork.TheVariants.{Group as GroupFork, Free, Halve, Least}
 use Rattle.search_order.specs.Searches.{IsLeft, IsWorked}
-use Rattle.search_order.specs.Turns.{EndKnown, IsTurn, repeated, splits_by}
-use Rattle.search_order.proofs.Given.{standing_by, heads_by, becomes_by, worked_by}
+use Rattle.search_order.specs.Turns.{EndKnown, IsTurn, splits_by}
+use Rattle.tree_pool.proofs.GivenBack.{standing_by, becomes_by, worked_by}
 use Rattle.search_order.proofs.Counts.{new_is}
 use Rattle.search_order.proofs.Grown.{turns_keep}
 use Rattle.box_pool.specs.declared.pool.WorkEnd.{WorkEnd}
 use Rattle.box_pool.specs.declared.pool.WorkEnd.TheVariants.{Shut, Split, Left}
-use Rattle.box_pool.specs.declared.spot.Base.{Base}
-use Rattle.box_pool.specs.declared.spot.BoxView.{BoxView}
+use Rattle.box_pool.specs.declared.open_box.ParentBox.{ParentBox}
+use Rattle.box_pool.specs.declared.open_box.BoxView.{BoxView}
 use Rattle.box_pool.specs.Grid.{pool_scale}
 use Rattle.box_pool.specs.Forks.{by_of, heads_of, next_of, state_heads}
 use Rattle.box_pool.specs.Expected.{kids_of}
 use Rattle.box_pool.specs.Origins.{Origin, box_of, turn_of, turn_by, origin_by, IsOrigin}
-use Rattle.box_pool.specs.Pools.{Boxed, PoolFits, ViewFits, end_as, base_of, new_origins}
+use Rattle.box_pool.specs.Pools.{Boxed, PoolFits, ViewFits, end_as, base_of, new_origins, box_of_view}
 use Rattle.box_pool.proofs.Forked.{forks_are_expected}
 use Rattle.box_pool.proofs.StillFits.{kept_shape}
+use Rattle.box_pool.proofs.ViewKids.{kids_by, next_by, base_by, box_end, first_of_kids, headed_box, turn_of_head, Comes, comes, count_kids}
 use Rattle.nom_search.specs.Sought.{sought}
-use Rattle.nom_search.specs.Searched.{box_of_view, IsOfStable, AreOfStable, IsSearched, IsEnd, IsWork}
+use Rattle.nom_search.specs.Searched.{IsOfStable, AreOfStable, IsSearched, IsEnd, IsWork}
 use Rattle.nom_search.proofs.Runs.{few_heads}
 
--- ---- the children of a view
-
-abbrev pub kids_by : Network → BoxView → WorkEnd → List (Head × PartBox)
-kids_by p v (Shut c) = []
-kids_by p v (Split fork) = kids_of (box_of_view v) (heads_of p v.part.value fork)
-kids_by p v Left = []
-
-abbrev pub next_by : WorkEnd → ℕ
-next_by (Shut c) = 0
-next_by (Split fork) = next_of fork
-next_by Left = 0
-
--- where the children come from
-abbrev branch_by : WorkEnd → BranchBy
-branch_by (Shut c) = by.Group 0
-branch_by (Split fork) = by_of fork
-branch_by Left = by.Group 0
-
-abbrev base_by : BoxView → WorkEnd → Base
-base_by v end = base_of v (branch_by end) (next_by end)
-
-first_of_kids : (b : PartBox) (heads : List Head) → heads ≡ map (λ (k : Head × PartBox). k.0) (kids_of b heads)
-first_of_kids b [] = refl
-first_of_kids b (h ∷ heads) = ap (λ hs. h ∷ hs) (first_of_kids b heads)
-
-abbrev box_end : Network → BoxView → WorkEnd → tree.WorkEnd
-box_end p v end = end_as p v.part.value end
+-- ---- the end of the work
 
 pub end_fits : (p : Network) (tol : ℤ) (v : BoxView) (end : WorkEnd) → IsWithin p → ViewFits p v → IsEnd p tol v end → EndFits (rules_of p) (box_of_view v) (box_end p v end) (kids_by p v end)
 end_fits p tol v (Shut c) within fits known = (known, refl)
@@ -93,75 +68,6 @@ few_kids p v (Split fork) within =
     let b : length (kids_by p v (Split fork)) ≡ length (heads_of p v.part.value fork) = length-map (heads_of p v.part.value fork) (λ (h : Head). (h, headed (box_of_view v) h)) in
     omega arith
 few_kids p v Left within = omega arith
-
--- ---- where children come from
-
-headed_box : (v : BoxView) (end : WorkEnd) (h : Head) → headed (box_of_view v) h ≡ box_of pool_scale (origin_by (base_by v end) (Some h))
-headed_box v end (Take k j) = refl
-headed_box v end (State a s) = refl
-headed_box v end (Half w low C) = refl
-
--- what stands at a place of a mapped list
-from_map : {A B : Type 0} (f : A → B) (xs : List A) (k : ℕ) (y : B) → slice_get (map f xs) k ≡ Some y → (x : A) × (slice_get xs k ≡ Some x) × (f x ≡ y)
-from_map f [] k y h = absurd cc
-from_map f (x ∷ xs) zero y h = (x, refl, cc)
-from_map f (x ∷ xs) (suc k) y h = from_map f xs k y h
-
-to_map : {A B : Type 0} (f : A → B) (xs : List A) (k : ℕ) (x : A) → slice_get xs k ≡ Some x → slice_get (map f xs) k ≡ Some (f x)
-to_map f [] k x at = absurd cc
-to_map f (y ∷ ys) zero x at = let e : y ≡ x = cc in ap (λ z. Some (f z)) e
-to_map f (y ∷ ys) (suc k) x at = to_map f ys k x at
-
-turn_in_group : (p : Network) (k i : ℕ) (h : Head) (o : Option Group) → slice_get (option_map_or (decision_heads k) o []) i ≡ Some h → turn_by 0 (Some h) ≡ 0
-turn_in_group p k i h None at = absurd cc
-turn_in_group p k i h (Some g) at = let z = from_map (Take k) (range_with_len 0 (length g.decisions)) i h at in let e = z.2 in rw (← e) refl
-
-turn_in_arc : (p : Network) (part : PartState) (a i : ℕ) (h : Head) (o : Option ArcRow) → slice_get (option_map_or (state_heads p part a) o []) i ≡ Some h → turn_by 0 (Some h) ≡ 0
-turn_in_arc p part a i h None at = absurd cc
-turn_in_arc p part a i h (Some row) at = let z = from_map (State a) (allowed_states p part a row) i h at in let e = z.2 in rw (← e) refl
-
-turn_of_head : (p : Network) (part : PartState) (fork : Fork) (i : ℕ) (h : Head) → slice_get (heads_of p part fork) i ≡ Some h → turn_by (next_of fork) (Some h) ≡ next_of fork
-turn_of_head p part (GroupFork k) i h at = turn_in_group p k i h (slice_get p.groups k) at
-turn_of_head p part (Free a) i h at = turn_in_arc p part a i h (slice_get p.arcs a) at
-turn_of_head p part (Halve v at next) zero h is = let e : Half v false at ≡ h = cc in rw (← e) refl
-turn_of_head p part (Halve v at next) (suc zero) h is = let e : Half v true at ≡ h = cc in rw (← e) refl
-turn_of_head p part (Halve v at next) (suc (suc i)) h is = absurd cc
-turn_of_head p part Least i h at = absurd cc
-
--- child k of a view: its head, and where it comes from
-record Comes (p : Network) (v : BoxView) (end : WorkEnd) (k : ℕ) (h : Head) : Type 0 where
-  pub fork : Fork
-  pub is : end ≡ Split fork
-  pub at : slice_get (heads_of p v.part.value fork) k ≡ Some h
-
-comes : (p : Network) (v : BoxView) (end : WorkEnd) (k : ℕ) (h : Head) → slice_get (heads_by (box_end p v end)) k ≡ Some h → Comes p v end k h
-comes p v (Shut c) k h at = absurd cc
-comes p v (Split fork) k h at = record { fork = fork; is = refl; at = at }
-comes p v Left k h at = absurd cc
-
-count_kids : (p : Network) (v : BoxView) (end : WorkEnd) → length (new_origins p v end) ≡ length (kids_by p v end)
-count_kids p v (Shut c) = refl
-count_kids p v (Split fork) = length-map (heads_of p v.part.value fork) (λ h. Some (origin_by (base_by v (Split fork)) (Some h))) ∙ sym (length-map (heads_of p v.part.value fork) (λ (h : Head). (h, headed (box_of_view v) h)))
-count_kids p v Left = refl
-
-set_other : {A : Type 0} (xs : List A) (n m : ℕ) (x y : A) → m ≢ n → slice_get xs m ≡ Some y → slice_get (slice_set xs n x) m ≡ Some y
-set_other [] n m x y ne h = absurd cc
-set_other (z ∷ xs) zero zero x y ne h = absurd (ne refl)
-set_other (z ∷ xs) zero (suc m) x y ne h = h
-set_other (z ∷ xs) (suc n) zero x y ne h = h
-set_other (z ∷ xs) (suc n) (suc m) x y ne h = set_other xs n m x y (λ e. ne (ap suc e)) h
-
-set_some : {A : Type 0} (xs : List (Option A)) (n m : ℕ) (y : A) → slice_get (slice_set xs n None) m ≡ Some (Some y) → slice_get xs m ≡ Some (Some y)
-set_some [] n m y h = absurd cc
-set_some (z ∷ xs) zero zero y h = absurd cc
-set_some (z ∷ xs) zero (suc m) y h = h
-set_some (z ∷ xs) (suc n) zero y h = h
-set_some (z ∷ xs) (suc n) (suc m) y h = set_some xs n m y h
-
-in_repeated : (count next k : ℕ) → k < count → slice_get (repeated count next) k ≡ Some next
-in_repeated zero next k lt = absurd (omega arith)
-in_repeated (suc count) next zero lt = refl
-in_repeated (suc count) next (suc k) lt = in_repeated count next k (omega arith)
 
 module _ (p : Network) (within : IsWithin p) (tol : ℤ) (root : PartBox) (budget : ℕ) (old taken new : Boxed) (n : ℕ) (end : WorkEnd) (searched : IsSearched p tol root budget old) (first : IsFirstWaiting old.rows n)
     (rows_taken : taken.rows ≡ update old.rows n (stand Held)) (same_origins : taken.origins ≡ old.origins) (w : IsWork p tol budget taken new n end) where
@@ -193,7 +99,7 @@ module _ (p : Network) (within : IsWithin p) (tol : ℤ) (root : PartBox) (budge
       holds_some (slice_get (update old.rows n (stand Held)) n) (λ r. new.rows ≡ given_rows (update old.rows n (stand Held)) n r.path w.steps tree_end)
       (subst (λ (rs : List Row). Holds (slice_get rs n) (λ r. new.rows ≡ given_rows rs n r.path w.steps tree_end)) rows_taken w.given.rows)
 
-  pub turn : IsTurn (sought p tol) 1024 budget (update old.rows n (stand Held)) searched.boxes searched.turns new.rows (searched.boxes ++ map (λ k. k.1) kids) (searched.turns ++ repeated (length kids) (next_by end)) n tree_end
+  pub turn : IsTurn (sought p tol) 1024 budget (update old.rows n (stand Held)) searched.boxes searched.turns new.rows (searched.boxes ++ map (λ k. k.1) kids) (searched.turns ++ replicate (length kids) (next_by end)) n tree_end
   turn =
       record {
         row = given.0;
@@ -213,12 +119,12 @@ module _ (p : Network) (within : IsWithin p) (tol : ℤ) (root : PartBox) (budge
         turns_are = refl;
       }
 
-  worked : IsWorked (sought p tol) root budget new.rows (searched.boxes ++ map (λ k. k.1) kids) (searched.turns ++ repeated (length kids) (next_by end))
-  worked = turns_keep (sought p tol) root 1024 budget old.rows searched.boxes searched.turns new.rows (searched.boxes ++ map (λ k. k.1) kids) (searched.turns ++ repeated (length kids) (next_by end)) n tree_end searched.worked first turn
+  worked : IsWorked (sought p tol) root budget new.rows (searched.boxes ++ map (λ k. k.1) kids) (searched.turns ++ replicate (length kids) (next_by end))
+  worked = turns_keep (sought p tol) root 1024 budget old.rows searched.boxes searched.turns new.rows (searched.boxes ++ map (λ k. k.1) kids) (searched.turns ++ replicate (length kids) (next_by end)) n tree_end searched.worked first turn
 
   rows_after : new.rows ≡ after old.rows n first.row.path (fill w.steps (standing_by old.rows tree_end)) (heads_by tree_end)
   unfolding turn
-  rows_after = new_is (sought p tol) 1024 budget old.rows searched.boxes searched.turns new.rows (searched.boxes ++ map (λ k. k.1) kids) (searched.turns ++ repeated (length kids) (next_by end)) n tree_end first turn
+  rows_after = new_is (sought p tol) 1024 budget old.rows searched.boxes searched.turns new.rows (searched.boxes ++ map (λ k. k.1) kids) (searched.turns ++ replicate (length kids) (next_by end)) n tree_end first turn
 
   origins_after : new.origins ≡ slice_set old.origins n None ++ new_origins p w.view end
   origins_after = w.given.origins ∙ ap (λ (os : List (Option Origin)). slice_set os n None ++ new_origins p w.view end) same_origins
@@ -257,20 +163,20 @@ module _ (p : Network) (within : IsWithin p) (tol : ℤ) (root : PartBox) (budge
       let s = searched.worked.pool.count in
       rw (← s) (a ∙ e ∙ ap Some (headed_box w.view end h))
 
-  child_turn : (k : ℕ) (h : Head) → Comes p w.view end k h → slice_get (searched.turns ++ repeated (length kids) (next_by end)) (length old.rows + k) ≡ Some (turn_of (origin_by (base_by w.view end) (Some h)))
+  child_turn : (k : ℕ) (h : Head) → Comes p w.view end k h → slice_get (searched.turns ++ replicate (length kids) (next_by end)) (length old.rows + k) ≡ Some (turn_of (origin_by (base_by w.view end) (Some h)))
   child_turn k h c =
       let is = c.is in
-      let a = get_right searched.turns (repeated (length kids) (next_by end)) k in
+      let a = get_right searched.turns (replicate (length kids) (next_by end)) k in
       let l = slice_get_within (heads_of p w.view.part.value c.fork) k h c.at in
       let m : length (kids_by p w.view (Split c.fork)) ≡ length (heads_of p w.view.part.value c.fork) = length-map (heads_of p w.view.part.value c.fork) (λ (h : Head). (h, headed (box_of_view w.view) h)) in
       let lt : k < length kids = (rw is (omega arith)) in
-      let b = in_repeated (length kids) (next_by end) k lt in
+      let b = get_replicate (length kids) (next_by end) k lt in
       let t : turn_by (next_by end) (Some h) ≡ next_by end = subst (λ (e : WorkEnd). turn_by (next_by e) (Some h) ≡ next_by e) (sym is) (turn_of_head p w.view.part.value c.fork k h c.at) in
       let s = searched.worked.count in
       rw (← s) (a ∙ b ∙ ap Some (sym t))
 
   origin_each : (m : ℕ) (r : Row) → slice_get new.rows m ≡ Some r → r.standing ≡ Waiting
-      → (o : Origin) × (slice_get new.origins m ≡ Some (Some o)) × (slice_get (searched.boxes ++ map (λ (k : Head × PartBox). k.1) kids) m ≡ Some (box_of pool_scale o)) × (slice_get (searched.turns ++ repeated (length kids) (next_by end)) m ≡ Some (turn_of o))
+      → (o : Origin) × (slice_get new.origins m ≡ Some (Some o)) × (slice_get (searched.boxes ++ map (λ (k : Head × PartBox). k.1) kids) m ≡ Some (box_of pool_scale o)) × (slice_get (searched.turns ++ replicate (length kids) (next_by end)) m ≡ Some (turn_of o))
   origin_each m r here waits =
       elim (origin old.rows searched.worked.map n first.row first.here (fill w.steps (standing_by old.rows tree_end)) (heads_by tree_end) (becomes_by old.rows first.row w.steps tree_end first.waits) m r (let a = rows_after in rw a at here)) [
         | inl before ↦ elim before.which [
@@ -280,7 +186,7 @@ module _ (p : Network) (within : IsWithin p) (tol : ℤ) (root : PartBox) (budge
                 z.0,
                 rw q (get_left (slice_set old.origins n None) (new_origins p w.view end) m (Some z.0) (set_other old.origins n m None (Some z.0) other.0 z.1)),
                 get_left searched.boxes (map (λ (k : Head × PartBox). k.1) kids) m (box_of pool_scale z.0) z.2,
-                get_left searched.turns (repeated (length kids) (next_by end)) m (turn_of z.0) z.3,
+                get_left searched.turns (replicate (length kids) (next_by end)) m (turn_of z.0) z.3,
               )
           | inr this ↦ absurd (worked_by old.rows tree_end (let a = this.1 in cc))
         ]
@@ -335,7 +241,7 @@ module _ (p : Network) (within : IsWithin p) (tol : ℤ) (root : PartBox) (budge
   pub searched_after : IsSearched p tol root budget new
   searched_after = record {
     boxes = searched.boxes ++ map (λ k. k.1) kids;
-    turns = searched.turns ++ repeated (length kids) (next_by end);
+    turns = searched.turns ++ replicate (length kids) (next_by end);
     worked = worked;
     origins = record { fits = fits_after; stable = stable_after; count = count_after; each = origin_each };
   }

@@ -4,7 +4,7 @@ use Rattle.std.specs.Prelude.{slice_get}
 use Rattle.std.specs.Rc.{rc_value}
 use Rattle.gas_model.specs.Rows.{Network}
 use Rattle.gas_model.specs.Boxes.{Bounds, BoxFits}
-use Rattle.gas_model.specs.declared.rows.Var.TheVariants.{Flow, Square}
+use Rattle.base_types.specs.declared.variables.Var.TheVariants.{Flow, Square}
 use Rattle.gas_model.specs.declared.rows.PartState.{PartState}
 use Rattle.gas_model.specs.Choices.{PartFits}
 use Rattle.tree_cert.specs.declared.line.Step.{Step}
@@ -19,12 +19,13 @@ use Rattle.stable_sweep.specs.Runs.{after, AreTurns, Extends}
 use Rattle.stable_sweep.specs.Children.{ComesBy, IsHeadOf}
 use Rattle.stable_sweep.specs.Settling.{IsStable, SettledAs}
 use Rattle.stable_sweep.proofs.Sweeps.{var_of}
-use Rattle.box_pool.specs.declared.spot.BoxView.{BoxView}
+use Rattle.box_pool.specs.declared.open_box.BoxView.{BoxView}
 use Rattle.box_pool.specs.Grid.{pool_scale}
 use Rattle.box_pool.specs.Origins.{Origin, part_by, bounds_by, box_of, CanPick, CanHalve, IsOrigin, IsViewOf}
-use Rattle.box_pool.specs.Pools.{Boxed, PoolFits, Looks, ViewFits}
-use Rattle.nom_search.specs.Searched.{box_of_view, IsOfStable, AreOfStable, LeadsTo, IsSettled}
+use Rattle.box_pool.specs.Pools.{Boxed, PoolFits, Looks, ViewFits, box_of_view}
+use Rattle.nom_search.specs.Searched.{IsOfStable, AreOfStable, LeadsTo, IsSettled}
 use Rattle.nom_search.proofs.Runs.{turns_lead}
+use Rattle.box_pool.proofs.StillFits.{view_fits}
 
 -- without a step the ends are as they were
 pub stays : (p : Network) (K : ℤ) (part : PartState) (a b : Bounds) (none steps : List Step) → none ≡ [] → Extends p (part_box K part a) (part_box K part b) none steps → steps ≡ [] → b ≡ a
@@ -51,28 +52,6 @@ settled_by p v w part a b none steps end part_is bounds_is empty same_part same_
       moves = subst (AreTurns p (box_of_view v)) (sym list) turns;
       after = subst (λ (ss : List Step). after_steps (rules_of p) (box_of_view v) ss ≡ Some (box_of_view w)) (sym list) (turns_lead p (box_of_view v) e.added turns ∙ ap Some (sym box));
       ends = subst (λ (q : PartBox). SettledAs p q end) new ends;
-    }
-
-bounds_fit : (p : Network) (b : Bounds) (h : Option Head) → BoxFits p b → BoxFits p (bounds_by b h)
-bounds_fit p b None fits = fits
-bounds_fit p b (Some (Take k j)) fits = fits
-bounds_fit p b (Some (State a s)) fits = fits
-bounds_fit p b (Some (Half (Flow a) low C)) fits = record { flows = length-set _ _ _ ∙ fits.flows; squares = fits.squares }
-bounds_fit p b (Some (Half (Square n) low C)) fits = record { flows = fits.flows; squares = length-set _ _ _ ∙ fits.squares }
-
-part_fits : (p : Network) (part : PartState) (h : Option Head) → PartFits p part → CanPick p part h → PartFits p (part_by part h)
-part_fits p part None fits can = fits
-part_fits p part (Some (Take k j)) fits can = can.1
-part_fits p part (Some (State a s)) fits can = can.1
-part_fits p part (Some (Half v low C)) fits can = fits
-
--- a view of a box that can be made fits the problem
-pub view_fits : (p : Network) (o : Origin) (v : BoxView) → IsOrigin p o → IsViewOf p o v → ViewFits p v
-view_fits p o v is view =
-    record {
-      part = subst (PartFits p) (sym view.part) (part_fits p o.part o.head is.part is.picks);
-      shape = view.shape;
-      bounds = subst (BoxFits p) (sym view.bounds) (bounds_fit p o.bounds o.head is.bounds);
     }
 
 view_box : (p : Network) (o : Origin) (v : BoxView) → IsViewOf p o v → box_of_view v ≡ box_of pool_scale o

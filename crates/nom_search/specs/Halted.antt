@@ -1,5 +1,5 @@
 -- What a search answers: a setting, the text of a tree that refutes, or where it stopped.
-use Rattle.std.specs.Prelude.{◌≡◌, ℕ, ℤ, List, []}
+use Rattle.std.specs.Prelude.{◌≡◌, ℕ, ℤ, List, [], Some, slice_get}
 use Rattle.gas_model.specs.Rows.{Network}
 use Rattle.gas_model.specs.Boxes.{BoxFits}
 use Rattle.gas_model.specs.Choices.{PartFits}
@@ -29,12 +29,6 @@ pub record Begins (p : Network) (root : PartBox) (pool : Boxed) : Type 0 where
   pub part : PartFits p root.part
   pub bounds : BoxFits p root.bounds
 
--- the boxes of a pool are those of this root, by the rules of the problem
-pub record IsStillOf (p : Network) (root : PartBox) (pool : Boxed) : Type 0 where
-  pub boxes : List PartBox
-  pub map : IsMap pool.rows
-  pub of_root : IsOf (rules_of p) root pool.rows boxes
-
 -- the bytes are the text of the tree that these boxes show
 pub record IsTextOf (rows : List Row) (text : List ℕ) (t : Tree) : Type 0 where
   pub shows : Shows (works rows) [] t
@@ -48,12 +42,14 @@ abbrev pub HaltsAt : Network → ℤ → PartBox → ℕ → Why → List Row �
 HaltsAt p tol root budget Budget rows boxes turns n = StopsAt (sought p tol) budget rows boxes turns n
 HaltsAt p tol root budget Grid rows boxes turns n = IsWorked (sought p tol) root budget rows boxes turns × NoneWaits rows × IsFirstQuit rows n
 
--- the search halted with this text, which names the open box by its line
+-- The search halted with this text, which names the open box by its line. The turn of the root is 0, and with it begin the
+-- forks by which boxes are split.
 pub record Halted (p : Network) (tol : ℤ) (root : PartBox) (budget : ℕ) (why : Why) (rows : List Row) (text : List ℕ) (line : ℕ) : Type 0 where
   pub boxes : List PartBox
   pub turns : List ℕ
   pub map : IsMap rows
   pub of_root : IsOf (rules_of p) root rows boxes
+  pub first : slice_get turns 0 ≡ Some 0
   pub tree : Tree
   pub is_text : IsTextOf rows text tree
   pub named : ℕ

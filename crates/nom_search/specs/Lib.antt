@@ -1,5 +1,5 @@
 pub mod Sought
 pub mod Searched
-pub mod Kept
+pub mod LastChoices
 pub mod Halted
 pub mod Texts

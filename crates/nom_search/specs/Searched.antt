@@ -1,6 +1,6 @@
 -- How far a search has come, and how it ends.
 use Rattle.std.specs.Prelude.{◌≡◌, ◌≢◌, true, ℕ, ◌+◌, ◌≤◌, ℤ, List, length, Some, Result, Ok, Err, slice_get}
-use Rattle.gas_model.specs.declared.collections.NoMemory.{NoMemory}
+use Rattle.base_types.specs.declared.collections.NoMemory.{NoMemory}
 use Rattle.gas_model.specs.Rows.{Network}
 use Rattle.gas_model.specs.Near.{IsNear, SettingFits}
 use Rattle.tree_cert.specs.declared.line.Head.{Head}
@@ -16,11 +16,11 @@ use Rattle.search_order.specs.Searches.{IsWorked, StopsAt, FirstQuit}
 use Rattle.search_order.specs.Turns.{splits_by}
 use Rattle.box_pool.specs.declared.pool.WorkEnd.{WorkEnd}
 use Rattle.box_pool.specs.declared.pool.WorkEnd.TheVariants.{Shut, Split, Left}
-use Rattle.box_pool.specs.declared.spot.BoxView.{BoxView}
+use Rattle.box_pool.specs.declared.open_box.BoxView.{BoxView}
 use Rattle.box_pool.specs.Grid.{pool_scale}
 use Rattle.box_pool.specs.Forks.{HasFork}
 use Rattle.box_pool.specs.Origins.{Origin, box_of, turn_of}
-use Rattle.box_pool.specs.Pools.{Boxed, PoolFits, ViewFits, IsGiven, end_as}
+use Rattle.box_pool.specs.Pools.{Boxed, PoolFits, ViewFits, IsGiven, end_as, box_of_view}
 use Rattle.nom_search.specs.Sought.{sought, IsCalm, IsLeast}
 use Rattle.nom_search.specs.declared.searching.Turn.{Turn}
 use Rattle.nom_search.specs.declared.searching.Turn.TheVariants as turn
@@ -51,16 +51,13 @@ pub record IsSearched (p : Network) (tol : ℤ) (root : PartBox) (budget : ℕ) 
   pub worked : IsWorked (sought p tol) root budget pool.rows boxes turns
   pub origins : AreOrigins p pool boxes turns
 
--- the box of a view
-abbrev pub box_of_view : BoxView → PartBox
-box_of_view v = record { scale = pool_scale; part = v.part.value; bounds = v.bounds.value }
-
--- the search stopped at box n for want of budget, and the pool is of this root
+-- the search stopped at box n for want of budget, and the pool is of this root, whose turn is 0
 pub record IsStopped (p : Network) (tol : ℤ) (root : PartBox) (budget : ℕ) (pool : Boxed) (n : ℕ) : Type 0 where
   pub boxes : List PartBox
   pub turns : List ℕ
   pub map : IsMap pool.rows
   pub of_root : IsOf (rules_of p) root pool.rows boxes
+  pub first : slice_get turns 0 ≡ Some 0
   pub stops : StopsAt (sought p tol) budget pool.rows boxes turns n
 
 -- what is known of the box that is left, by the end of the work on it

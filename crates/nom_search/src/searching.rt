@@ -9,14 +9,15 @@ ghost use Rattle.search_order.specs.Searches.{NoneQuit};
 ghost use Rattle.box_split.specs.declared.forks.Fork.TheVariants.{Least};
 ghost use Rattle.box_pool.specs.Forks.{HasFork};
 ghost use Rattle.box_pool.specs.Origins.{Origin};
-ghost use Rattle.box_pool.specs.Pools.{PoolFits, ViewFits};
+ghost use Rattle.box_pool.specs.Pools.{PoolFits, ViewFits, box_of_view};
+ghost use Rattle.box_pool.specs.PoolOf.{IsPoolOf};
 ghost use Rattle.nom_search.specs.Sought.{IsCalm};
-ghost use Rattle.nom_search.specs.Halted.{Begins, IsStillOf, Answers};
+ghost use Rattle.nom_search.specs.Halted.{Begins, Answers};
 ghost use Rattle.nom_search.specs.Texts.{IsHalt, NamesBox, IsFound};
-ghost use Rattle.nom_search.specs.Kept.{AreTools};
-ghost use Rattle.nom_search.specs.Searched.{box_of_view, AreOfStable, LeadsTo, IsSearched, IsSettled, Turns, Ends};
+ghost use Rattle.nom_search.specs.LastChoices.{AreTools};
+ghost use Rattle.nom_search.specs.Searched.{AreOfStable, LeadsTo, IsSearched, IsSettled, Turns, Ends};
 
-use crate::trial::{Kept, tried};
+use crate::trial::{LastChoices, tried};
 use box_core::VarBox;
 use box_pool::{BoxView, Pool, PoolGrid, Work, WorkEnd, shared};
 use box_split::{Fork, branch};
@@ -56,7 +57,7 @@ pub enum Turn {
 #[derive(Drop)]
 pub struct Tools {
     pub queue: LawQueue,
-    pub kept: Option<Kept>,
+    pub kept: Option<LastChoices>,
 }
 
 /// How the boxes of a pool end: none waits any more, and this is the first one that was left open; this one was left for
@@ -128,11 +129,13 @@ fn shut_box(
     view: BoxView,
     boxes: u64,
 ) -> Result<Turn, NoMemory>
+    requires problem { IsWithin p.now }
     requires held { IsHeld pool.old.rows id }
     requires origin { (o : Origin) × (slice_get pool.old.origins id ≡ Some (Some o)) × LeadsTo p.now o steps view }
     requires closing { closing_holds p.now (box_of_view view) closing ≡ true }
     requires within { splits pool.old.rows ≤ boxes }
-    ensures { (tol : ℤ) → Turns p.now tol boxes pool.old pool.new id result }
+    ensures turn { (tol : ℤ) → Turns p.now tol boxes pool.old pool.new id result }
+    ensures keeps { (root : PartBox) → IsPoolOf p.now root pool.old → IsPoolOf p.now root pool.new }
 {
     let end = WorkEnd::Shut(closing);
     pool.give_back(alloc, p, id, Work { steps, end }, view)?;
@@ -158,7 +161,8 @@ fn split_box(
     requires within { splits pool.old.rows ≤ boxes }
     requires fork { HasFork p.now view.part.value view.bounds.value view.turn fork }
     requires wide { fork ≢ Least }
-    ensures { (tol : ℤ) → IsCalm p.now tol (box_of_view view) → Turns p.now tol boxes pool.old pool.new id result }
+    ensures turn { (tol : ℤ) → IsCalm p.now tol (box_of_view view) → Turns p.now tol boxes pool.old pool.new id result }
+    ensures keeps { (root : PartBox) → IsPoolOf p.now root pool.old → IsPoolOf p.now root pool.new }
 {
     if pool.branched() >= boxes {
         let end = WorkEnd::Left;
@@ -185,7 +189,8 @@ fn branch_box(
     requires room { length pool.old.rows + 1024 < 2 ^ 32 }
     requires origin { (o : Origin) × (slice_get pool.old.origins id ≡ Some (Some o)) × LeadsTo p.now o steps view }
     requires within { splits pool.old.rows ≤ boxes }
-    ensures { (tol : ℤ) → IsCalm p.now tol (box_of_view view) → Turns p.now tol boxes pool.old pool.new id result }
+    ensures turn { (tol : ℤ) → IsCalm p.now tol (box_of_view view) → Turns p.now tol boxes pool.old pool.new id result }
+    ensures keeps { (root : PartBox) → IsPoolOf p.now root pool.old → IsPoolOf p.now root pool.new }
 {
     match branch(p, &view.shape, &view.part, &view.bounds, view.turn) {
         Fork::Least => {
@@ -218,6 +223,7 @@ fn work_box(
     requires tol { tol ≤ 10 ^ 16 }
     ensures tools { AreTools p.now tools.new }
     ensures turn { Turns p.now (pos tol) boxes pool.old pool.new id result }
+    ensures keeps { (root : PartBox) → IsPoolOf p.now root pool.old → IsPoolOf p.now root pool.new }
 {
     let Some(mut view) = pool.look(alloc, p, id)? else {
         return Err(NoMemory);
@@ -247,7 +253,7 @@ fn drain(
     requires tools { AreTools p.now tools.old }
     requires tol { tol ≤ 10 ^ 16 }
     requires fresh { NoneQuit pool.old.rows }
-    ensures still { (root : PartBox) → IsSearched p.now (pos tol) root boxes pool.old → IsStillOf p.now root pool.new }
+    ensures keeps { (root : PartBox) → IsPoolOf p.now root pool.old → IsPoolOf p.now root pool.new }
     ensures ends { (root : PartBox) → IsSearched p.now (pos tol) root boxes pool.old → Ends p.now (pos tol) root boxes pool.new result }
 {
     let mut first = None;
@@ -293,7 +299,8 @@ fn answered(alloc: Global, pool: &Pool, outcome: Outcome) -> Result<Found, NoMem
 /// Where no box waits any more, and none stays open, the tree of the pool refutes.
 ///
 /// The pool is as `new` or `at` makes it of `p`. The text of an answer is that which `write` then gives of the pool, and
-/// the line is `line_of` one of its boxes. After `NoMemory`, too, the pool is still one of its root.
+/// the line is `line_of` one of its boxes. After `NoMemory`, too, the pool is still one of the problem and its root: its boxes
+/// can be looked at.
 pub fn search(
     alloc: Global,
     p: &Problem,
@@ -305,7 +312,7 @@ pub fn search(
     requires tol { tol ≤ 10 ^ 16 }
     requires boxes { boxes ≤ 16384 }
     ensures within { IsWithin p.now }
-    ensures still { (root : PartBox) → Begins p.now root pool.old → IsStillOf p.now root pool.new }
+    ensures keeps { (root : PartBox) → Begins p.now root pool.old → IsPoolOf p.now root pool.new }
     ensures answers { (root : PartBox) → Begins p.now root pool.old → IfOk result (Answers p.now (pos tol) root boxes pool.new) }
 {
     let size = (p.nodes().len() + p.arcs().len()) as u32;

@@ -5,10 +5,9 @@ ghost use Rattle.gas_model.specs.Near.{IsNear, SettingFits};
 ghost use Rattle.box_ends.specs.Empty.{LeavesAll};
 ghost use Rattle.probe_point.specs.Points.{IsProbe};
 ghost use Rattle.box_pool.specs.Grid.{pool_scale};
-ghost use Rattle.box_pool.specs.Pools.{ViewFits};
+ghost use Rattle.box_pool.specs.Pools.{ViewFits, box_of_view};
 ghost use Rattle.nom_search.specs.Sought.{IsFar};
-ghost use Rattle.nom_search.specs.Searched.{box_of_view};
-ghost use Rattle.nom_search.specs.Kept.{IsKept};
+ghost use Rattle.nom_search.specs.LastChoices.{AreLast};
 
 use box_pool::BoxView;
 use element_laws::first_broken;
@@ -20,20 +19,20 @@ use std::rc::Rc;
 /// The choices of the probe that was made last, and the part state that they are of. Boxes that come by halves have the
 /// part state of the box that they come from.
 #[derive(Drop)]
-pub struct Kept {
+pub struct LastChoices {
     pub part: Rc<PartState>,
     pub chosen: Chosen,
 }
 
 // The choices of a probe in a part state, worked out.
-fn worked_out(alloc: Global, p: &Problem, part: &Rc<PartState>) -> Result<Kept, NoMemory>
+fn worked_out(alloc: Global, p: &Problem, part: &Rc<PartState>) -> Result<LastChoices, NoMemory>
     requires { PartFits p.now part.now.value }
-    ensures kept { IfOk result (IsKept p.now) }
+    ensures kept { IfOk result (AreLast p.now) }
     ensures part { IfOk result (λ k. k.part.value ≡ part.now.value) }
 {
     let chosen = Chosen::of(alloc, p, part)?;
     match part.clone() {
-        Ok(part) => Ok(Kept { part, chosen }),
+        Ok(part) => Ok(LastChoices { part, chosen }),
         Err(_) => Err(NoMemory),
     }
 }
@@ -43,11 +42,11 @@ fn choices_in(
     alloc: Global,
     p: &Problem,
     part: &Rc<PartState>,
-    last: Option<Kept>,
-) -> Result<Kept, NoMemory>
+    last: Option<LastChoices>,
+) -> Result<LastChoices, NoMemory>
     requires part { PartFits p.now part.now.value }
-    requires last { IfSome last (IsKept p.now) }
-    ensures kept { IfOk result (IsKept p.now) }
+    requires last { IfSome last (AreLast p.now) }
+    ensures kept { IfOk result (AreLast p.now) }
     ensures part { IfOk result (λ k. k.part.value ≡ part.now.value) }
 {
     let Some(kept) = last else {
@@ -65,12 +64,12 @@ fn probe_of(
     alloc: Global,
     p: &Problem,
     view: &BoxView,
-    kept: &mut Option<Kept>,
+    kept: &mut Option<LastChoices>,
 ) -> Result<Setting, NoMemory>
     requires fits { ViewFits p.now view.now }
     requires filled { LeavesAll view.now.bounds.value }
-    requires kept { IfSome kept.old (IsKept p.now) }
-    ensures kept { IfSome kept.new (IsKept p.now) }
+    requires kept { IfSome kept.old (AreLast p.now) }
+    ensures kept { IfSome kept.new (AreLast p.now) }
     ensures probe { IfOk result (IsProbe pool_scale p.now view.now.part.value view.now.bounds.value) }
     ensures fits { IfOk result (λ s. SettingFits p.now s) }
 {
@@ -87,14 +86,14 @@ pub fn tried(
     alloc: Global,
     p: &Problem,
     view: &BoxView,
-    kept: &mut Option<Kept>,
+    kept: &mut Option<LastChoices>,
     tol: u64,
 ) -> Result<Option<Setting>, NoMemory>
     requires fits { ViewFits p.now view.now }
     requires filled { LeavesAll view.now.bounds.value }
-    requires kept { IfSome kept.old (IsKept p.now) }
+    requires kept { IfSome kept.old (AreLast p.now) }
     requires tol { tol ≤ 10 ^ 16 }
-    ensures kept { IfSome kept.new (IsKept p.now) }
+    ensures kept { IfSome kept.new (AreLast p.now) }
     ensures tried { IfOk result (λ o. MatchOption o (IsFar p.now (pos tol) (box_of_view view.now)) (λ s. IsNear p.now (pos tol) s × SettingFits p.now s)) }
 {
     let setting = probe_of(alloc, p, view, kept)?;

@@ -9,8 +9,8 @@ use Rattle.std.proofs.lemmas.Option.{slice_get-map, slice_get-get_or, slice_get_
 use Rattle.gas_model.specs.declared.rows.ArcKind.{ArcKind}
 use Rattle.gas_model.specs.declared.rows.ArcKind.TheVariants.{Pipe, Short, Resist, Loss, Valve, Control, Station}
 use Rattle.gas_model.specs.declared.rows.ArcRow.{ArcRow}
-use Rattle.gas_model.specs.declared.rows.ArcState.{ArcState}
-use Rattle.gas_model.specs.declared.rows.ArcState.TheVariants.{Opened, Shut, Active, Bypass}
+use Rattle.base_types.specs.declared.states.ArcState.{ArcState}
+use Rattle.base_types.specs.declared.states.ArcState.TheVariants.{Opened, Shut, Active, Bypass}
 use Rattle.gas_model.specs.declared.rows.Group.{Group}
 use Rattle.gas_model.specs.declared.rows.PartState.{PartState}
 use Rattle.gas_model.specs.Choices.{states_of, has_state, only, named_state, picks_allow, fixed_under, fixed_state, allowed_states, ArePicks, PartFits}
@@ -18,7 +18,8 @@ use Rattle.gas_model.specs.Points.{state_at}
 use Rattle.gas_model.specs.Rows.{Network}
 use Rattle.gas_model.specs.Within.{IsWithin, is_group_within}
 use Rattle.topo.specs.Graphs.{no_arc}
-use Rattle.topo.specs.States.{fixed_at, is_shut, is_there}
+use Rattle.gas_model.specs.Laws.{is_shut}
+use Rattle.topo.specs.States.{fixed_at, is_there}
 use Rattle.probe_point.specs.Chosen.{picks_of, with_picks, all_chosen, first_left, chosen_state, AreChosen}
 
 -- ---- picks

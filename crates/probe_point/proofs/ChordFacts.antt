@@ -6,7 +6,8 @@ use Rattle.gas_model.specs.declared.rows.ArcRow.{ArcRow}
 use Rattle.gas_model.specs.declared.rows.Ends.{Ends}
 use Rattle.gas_model.specs.Near.{number_at as at}
 use Rattle.topo.specs.Graphs.{Graph, graph_of}
-use Rattle.probe_point.specs.Probes.{middle, AreNeeds, AreSmall, AreEnds}
+use Rattle.box_ends.specs.Middle.{middle}
+use Rattle.probe_point.specs.Probes.{AreNeeds, AreSmall, AreGraphEnds}
 use Rattle.probe_point.specs.Chords.{KeepsTheRest, AreDistinctArcs}
 use Rattle.probe_point.proofs.Settled.{NeedsIn, needs_given, needs_in, needs_out, small_given, small_flow}
 
@@ -19,7 +20,7 @@ pub record Given (arcs : List ArcRow) (box : ℕ → Ends) (chords : List ℕ) (
   pub flows : AreSmall 1 now
   pub small : AreSmall (1 + n) need
 
-pub given_step : (arcs : List ArcRow) (box : ℕ → Ends) (chords : List ℕ) (old now new before need less : List ℤ) (n : ℕ) (x : ℤ) → AreDistinctArcs arcs chords → AreEnds arcs (length need) → length now ≡ length arcs → n < length chords
+pub given_step : (arcs : List ArcRow) (box : ℕ → Ends) (chords : List ℕ) (old now new before need less : List ℤ) (n : ℕ) (x : ℤ) → AreDistinctArcs arcs chords → AreGraphEnds arcs (length need) → length now ≡ length arcs → n < length chords
     → x ≡ middle (box (get_or chords n 0)) → IsWithin 1000000000000 x
     → new ≡ set now (get_or chords n 0) x
     → less ≡ set (set need ((graph_of arcs).from (get_or chords n 0)) (at need ((graph_of arcs).from (get_or chords n 0)) -ℤ x)) ((graph_of arcs).to (get_or chords n 0)) (at need ((graph_of arcs).to (get_or chords n 0)) +ℤ x)

@@ -1,6 +1,6 @@
 -- The probe, from its parts.
 use Rattle.std.proofs.Common.{◌≡◌, ℕ, sym, subst, Bool, false, IsTrue, List, ℤ}
-use Rattle.gas_model.specs.declared.rows.ArcState.{ArcState}
+use Rattle.base_types.specs.declared.states.ArcState.{ArcState}
 use Rattle.gas_model.specs.declared.rows.Ends.{Ends}
 use Rattle.gas_model.specs.declared.rows.PartState.{PartState}
 use Rattle.gas_model.specs.Boxes.{Bounds}

@@ -7,7 +7,7 @@ use Rattle.integer_laws.specs.Sizes.{IsWithin}
 use Rattle.integer_laws.proofs.Ring.{linear, mul_add, mul_one, mul_comm, mul_neg, mul_zero, le_of_mul_left, lt_of_mul_left}
 use Rattle.gas_model.proofs.LimitFacts.{scale_from}
 use Rattle.gas_model.specs.declared.rows.Ends.{Ends}
-use Rattle.gas_model.specs.Limits.{is_square}
+use Rattle.base_types.specs.Numbers.{is_square}
 use Rattle.gas_model.specs.Boxes.{no_ends}
 use Rattle.gas_model.specs.BoxLimits.{IsScale, AreFlowEnds, AreSquareEnds}
 use Rattle.probe_point.specs.Probes.{box_at}

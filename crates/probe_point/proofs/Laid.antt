@@ -3,9 +3,9 @@ use Rattle.std.proofs.Common.{◌≡◌, ◌≢◌, ℕ, ◌<◌, ◌+◌, inl, 
 use Rattle.std.proofs.lemmas.Bool.{cases_eq}
 use Rattle.std.proofs.lemmas.Bool.Decides.{nat_tests}
 use Rattle.gas_model.specs.declared.rows.ArcRow.{ArcRow}
-use Rattle.gas_model.specs.declared.rows.ArcState.{ArcState}
+use Rattle.base_types.specs.declared.states.ArcState.{ArcState}
 use Rattle.gas_model.specs.declared.rows.Ends.{Ends}
-use Rattle.gas_model.specs.Limits.{is_square}
+use Rattle.base_types.specs.Numbers.{is_square}
 use Rattle.gas_model.specs.Near.{number_at as at}
 use Rattle.topo.specs.Graphs.{Graph, graph_of, is_at}
 use Rattle.topo.specs.Walks.{far, Step, step_at, InOrder}
@@ -25,10 +25,10 @@ clash b e f = cc
 off : (g : Graph) (a v : ℕ) (n : ℕ) → is_at g v a ≡ false → IsTrue (is_at g n a) → n ≢ v
 off g a v n f t e = let h : is_at g v a ≡ true = subst (λ (k : ℕ). is_at g k a ≡ true) e t in clash _ h f
 
-far_at : (g : Graph) (a n : ℕ) → IsTrue (is_at g n a) → IsTrue (is_at g (far g a n) a)
+pub far_at : (g : Graph) (a n : ℕ) → IsTrue (is_at g n a) → IsTrue (is_at g (far g a n) a)
 far_at g a n h = grind (arith, nat_tests)
 
-not_near : (g : Graph) (a n : ℕ) → g.from a ≢ g.to a → IsTrue (is_at g n a) → n ≢ far g a n
+pub not_near : (g : Graph) (a n : ℕ) → g.from a ≢ g.to a → IsTrue (is_at g n a) → n ≢ far g a n
 not_near g a n ne h = grind (arith, nat_tests)
 
 pub laid_step : (arcs : List ArcRow) (states : List ArcState) (box : ℕ → Ends) (q : ℕ → ℤ) (walk : List Step) (old now : List ℤ) (n : ℕ) (x : ℤ) → InOrder (graph_of arcs) walk → ((a : ℕ) → a < length arcs → (graph_of arcs).from a ≢ (graph_of arcs).to a) → n < length walk → far_of (graph_of arcs) walk n < length now → IsTrue (is_square x)

@@ -15,3 +15,7 @@ pub mod ChoiceFacts
 pub mod Composed
 pub mod OnlyOne
 pub mod PartFacts
+pub mod Tables
+pub mod SomeFlows
+pub mod SomeSquares
+pub mod SomeProbe

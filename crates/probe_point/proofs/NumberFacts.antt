@@ -7,7 +7,7 @@ use Rattle.std.proofs.lemmas.List.Recursion.{and_from_places}
 use Rattle.std.proofs.lemmas.List.{get_or-replicate, get_or_past, get_or_push, get_or_append_left, length_push, length-replicate}
 use Rattle.integer_laws.specs.Sizes.{IsWithin}
 use Rattle.integer_laws.proofs.Ring.{linear}
-use Rattle.gas_model.specs.Limits.{is_flow, is_square}
+use Rattle.base_types.specs.Numbers.{is_flow, is_square}
 use Rattle.gas_model.specs.Near.{number_at as at}
 use Rattle.gas_model.proofs.LimitFacts.{square_size}
 use Rattle.probe_point.specs.Probes.{AreSmall}

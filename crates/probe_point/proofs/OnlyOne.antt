@@ -4,8 +4,8 @@ use Rattle.std.proofs.lemmas.Bool.{cases_eq, cases_lt}
 use Rattle.std.proofs.lemmas.List.{ext_get_or, get_or_past, length-map}
 use Rattle.integer_laws.proofs.Ring.{linear, mul_comm, lt_of_mul_left}
 use Rattle.gas_units.specs.Rounds.{IsFloor, IsCeiling}
-use Rattle.gas_model.specs.declared.rows.ArcState.{ArcState}
-use Rattle.gas_model.specs.declared.rows.ArcState.TheVariants.{Opened}
+use Rattle.base_types.specs.declared.states.ArcState.{ArcState}
+use Rattle.base_types.specs.declared.states.ArcState.TheVariants.{Opened}
 use Rattle.gas_model.specs.declared.rows.Ends.{Ends}
 use Rattle.gas_model.specs.declared.rows.PartState.{PartState}
 use Rattle.gas_model.specs.declared.rows.Setting.{Setting}
@@ -20,12 +20,13 @@ use Rattle.topo.specs.States.{is_there}
 use Rattle.topo.specs.Walks.{Step, step_at, far_of}
 use Rattle.topo.specs.Shapes.{Layout, IsShapeOf}
 use Rattle.topo.proofs.OnlyOne.{one_shape}
-use Rattle.probe_point.specs.Probes.{middle, box_at, HasTreeFlows}
+use Rattle.box_ends.specs.Middle.{middle}
+use Rattle.probe_point.specs.Probes.{box_at, HasTreeFlows}
 use Rattle.probe_point.specs.Squares.{HasSquares}
 use Rattle.probe_point.specs.Hulls.{IsHull, AreHulls}
 use Rattle.probe_point.specs.Chosen.{with_picks, all_chosen, AreChosen}
 use Rattle.probe_point.specs.Points.{middle_supplies, AreProbeFlows, AreProbeSquares}
-use Rattle.probe_point.specs.Laws.{OneProbe}
+use Rattle.probe_point.specs.OneProbe.{OneProbe}
 use Rattle.probe_point.proofs.HullFacts.{next}
 use Rattle.probe_point.proofs.ShapeFacts.{walk_in_order, walked_arc, walked_node, ends_within}
 use Rattle.probe_point.proofs.ChoiceFacts.{away_shut}

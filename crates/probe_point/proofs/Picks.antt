@@ -3,7 +3,7 @@ use Rattle.std.proofs.Common.{◌≡◌, inl, inr, refl, sym, ◌∙◌, subst, 
 use Rattle.std.specs.Prelude.{if◌then◌else◌, int_lt}
 use Rattle.integer_laws.proofs.Ring.{linear, le_or_lt}
 use Rattle.gas_model.specs.declared.rows.Ends.{Ends}
-use Rattle.gas_model.specs.Limits.{is_square}
+use Rattle.base_types.specs.Numbers.{is_square}
 use Rattle.probe_point.specs.Probes.{nearest}
 
 pub pick_yes : (b : Bool) (x y : ℤ) → b ≡ true → (if b then x else y) ≡ x

@@ -2,9 +2,9 @@
 use Rattle.std.proofs.Common.{◌≡◌, ◌≢◌, ℕ, ◌<◌, ◌+◌, inl, inr, sym, ap, ◌∙◌, subst, arith, List, length, set, get_or, ℤ, pos, IsTrue, get_or-set_same, get_or-set_other, length-set}
 use Rattle.std.proofs.lemmas.Bool.{cases_eq}
 use Rattle.gas_model.specs.declared.rows.Ends.{Ends}
-use Rattle.gas_model.specs.Limits.{is_square}
+use Rattle.base_types.specs.Numbers.{is_square}
 use Rattle.gas_model.specs.Near.{number_at as at}
-use Rattle.probe_point.specs.Probes.{middle}
+use Rattle.box_ends.specs.Middle.{middle}
 use Rattle.probe_point.specs.Squares.{AreSquares}
 use Rattle.probe_point.specs.Chords.{KeepsTheRest, AreBelow}
 

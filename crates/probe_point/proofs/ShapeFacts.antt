@@ -12,7 +12,7 @@ use Rattle.topo.specs.Graphs.{graph_of, no_arc, IsTreeArc}
 use Rattle.topo.specs.States.{is_there}
 use Rattle.topo.specs.Walks.{Step, step_at, far_of, InOrder}
 use Rattle.topo.specs.Shapes.{Layout, IsShapeOf, IsOtherNode}
-use Rattle.probe_point.specs.Probes.{AreEnds}
+use Rattle.probe_point.specs.Probes.{AreGraphEnds}
 use Rattle.probe_point.specs.Squares.{AreKindsWithin}
 use Rattle.probe_point.specs.Chords.{AreDistinctArcs, AreBelow}
 
@@ -36,7 +36,7 @@ row_kind row t = grind arith
 pub kinds_within : (p : Network) → IsWithin p → AreKindsWithin p.arcs
 kinds_within p w a h = row_kind (get_or p.arcs a no_arc) (w.arcs a (get_or p.arcs a no_arc) (slice_get-get_or p.arcs a no_arc h))
 
-pub ends_within : (p : Network) → IsWithin p → AreEnds p.arcs (length p.nodes)
+pub ends_within : (p : Network) → IsWithin p → AreGraphEnds p.arcs (length p.nodes)
 ends_within p w = record {
   from = λ a h. w.from a (get_or p.arcs a no_arc) (slice_get-get_or p.arcs a no_arc h);
   to = λ a h. w.to a (get_or p.arcs a no_arc) (slice_get-get_or p.arcs a no_arc h);

@@ -5,14 +5,15 @@ use Rattle.std.proofs.lemmas.Bool.{cases_eq}
 use Rattle.std.proofs.lemmas.Bool.Decides.{nat_tests}
 use Rattle.gas_units.specs.Rounds.{IsRootDown}
 use Rattle.gas_model.specs.declared.rows.ArcRow.{ArcRow}
-use Rattle.gas_model.specs.declared.rows.ArcState.{ArcState}
+use Rattle.base_types.specs.declared.states.ArcState.{ArcState}
 use Rattle.gas_model.specs.declared.rows.Ends.{Ends}
-use Rattle.gas_model.specs.Laws.{LawForm, drags, equals, shuts, loses, reduces, raises, never}
+use Rattle.gas_model.specs.declared.law_forms.LawForm.{LawForm}
+use Rattle.gas_model.specs.declared.law_forms.LawForm.TheVariants.{Drags, Equals, Shuts, Loses, Reduces, Raises, Never}
 use Rattle.topo.specs.Graphs.{Graph, graph_of, is_at}
 use Rattle.topo.specs.Walks.{far, Step, step_at, InOrder}
-use Rattle.probe_point.specs.Probes.{nearest, but, taking_up, HasTreeFlows, AreEnds}
+use Rattle.probe_point.specs.Probes.{nearest, but, taking_up, HasTreeFlows, AreGraphEnds}
 use Rattle.probe_point.specs.Squares.{IsGiven, IsFarSquare, HasSquares, lossy}
-use Rattle.probe_point.specs.Laws.{OneTreeFlow, OneSquare}
+use Rattle.probe_point.specs.OneProbe.{OneTreeFlow, OneSquare}
 use Rattle.probe_point.proofs.Nets.{net_is}
 use Rattle.probe_point.proofs.Settled.{far_of, balanced, balanced_same}
 
@@ -70,13 +71,13 @@ one_root n r s a b = let h = b.greatest r a.at_most in let k = a.greatest s b.at
 
 -- one square is given
 one_given : (form : LawForm) (at_from : Bool) (e : Ends) (q x y z : ℤ) → IsGiven form at_from e q x y → IsGiven form at_from e q x z → y ≡ z
-one_given (drags law) at_from e q x y z a b = a ∙ sym b
-one_given (loses low high) at_from e q x y z a b = a.2 ∙ ap (λ (r : ℕ). lossy low at_from q (pos r) x) (one_root (unsigned_abs x) a.0 b.0 a.1 b.1) ∙ sym b.2
-one_given (reduces in_min out_max red_min red_max) at_from e q x y z a b = a ∙ sym b
-one_given (raises in_min out_max ratio_num ratio_den rise_max) at_from e q x y z a b = a ∙ sym b
-one_given equals at_from e q x y z a b = a ∙ sym b
-one_given shuts at_from e q x y z a b = a ∙ sym b
-one_given never at_from e q x y z a b = a ∙ sym b
+one_given (Drags law) at_from e q x y z a b = a ∙ sym b
+one_given (Loses low high) at_from e q x y z a b = a.2 ∙ ap (λ (r : ℕ). lossy low at_from q (pos r) x) (one_root (unsigned_abs x) a.0 b.0 a.1 b.1) ∙ sym b.2
+one_given (Reduces in_min out_max red_min red_max) at_from e q x y z a b = a ∙ sym b
+one_given (Raises in_min out_max ratio_num ratio_den rise_max) at_from e q x y z a b = a ∙ sym b
+one_given Equals at_from e q x y z a b = a ∙ sym b
+one_given Shuts at_from e q x y z a b = a ∙ sym b
+one_given Never at_from e q x y z a b = a ∙ sym b
 
 one_far : (form : LawForm) (at_from : Bool) (e : Ends) (q x w y z : ℤ) → x ≡ w → IsFarSquare form at_from e q x y → IsFarSquare form at_from e q w z → y ≡ z
 one_far form at_from e q x w y z same a b =
@@ -97,7 +98,7 @@ far_in g walk v (suc i) = elim (cases_eq (far_of g walk i) v) [
 not_near : (g : Graph) (a n : ℕ) → g.from a ≢ g.to a → IsTrue (is_at g n a) → n ≢ far g a n
 not_near g a n ne h = grind (arith, nat_tests)
 
-module _ (arcs : List ArcRow) (states : List ArcState) (box : ℕ → Ends) (q : ℕ → ℤ) (walk : List Step) (s t : ℕ → ℤ) (nodes : ℕ) (ends : AreEnds arcs nodes) (o : InOrder (graph_of arcs) walk) (hs : HasSquares arcs states box q walk s) (ht : HasSquares arcs states box q walk t) (rest : (v : ℕ) → ((i : ℕ) → i < length walk → far_of (graph_of arcs) walk i ≢ v) → s v ≡ t v) where
+module _ (arcs : List ArcRow) (states : List ArcState) (box : ℕ → Ends) (q : ℕ → ℤ) (walk : List Step) (s t : ℕ → ℤ) (nodes : ℕ) (ends : AreGraphEnds arcs nodes) (o : InOrder (graph_of arcs) walk) (hs : HasSquares arcs states box q walk s) (ht : HasSquares arcs states box q walk t) (rest : (v : ℕ) → ((i : ℕ) → i < length walk → far_of (graph_of arcs) walk i ≢ v) → s v ≡ t v) where
   -- a near end that is a far end is that of an earlier step
   earlier : (i k : ℕ) → i < length walk → k < length walk → far_of (graph_of arcs) walk k ≡ (step_at walk i).1 → k < i
   earlier i k hi hk e = elim (order k i) [

@@ -2,7 +2,7 @@
 use Rattle.std.specs.Prelude.{◌≡◌, ◌≢◌, ℕ, ◌<◌, List, length, slice_index, ℤ, pos}
 use Rattle.gas_model.specs.declared.rows.ArcRow.{ArcRow}
 use Rattle.gas_model.specs.declared.rows.Ends.{Ends}
-use Rattle.probe_point.specs.Probes.{middle}
+use Rattle.box_ends.specs.Middle.{middle}
 
 -- each chord, or root, has the middle of its box
 abbrev pub HasMiddles : (ℕ → Ends) → List ℕ → (ℕ → ℤ) → Type 0

@@ -1,6 +1,6 @@
 pub mod Probes
 pub mod Squares
-pub mod Laws
+pub mod OneProbe
 pub mod Hulls
 pub mod Chosen
 pub mod Chords

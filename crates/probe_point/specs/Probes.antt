@@ -1,6 +1,5 @@
 -- The setting that is tried in a box, as equations.
 use Rattle.std.specs.Prelude.{◌≡◌, ◌≢◌, ℕ, ◌<◌, ◌*◌, ◌==◌, List, length, slice_index_or, if◌then◌else◌, ℤ, pos, ◌+ℤ◌, ◌-ℤ◌, int_lt, ◌≤ℤ◌}
-use Rattle.std.specs.Int.{int_div_euclid}
 use Rattle.integer_laws.specs.Sizes.{IsWithin}
 use Rattle.gas_model.specs.declared.rows.ArcRow.{ArcRow}
 use Rattle.gas_model.specs.declared.rows.Ends.{Ends}
@@ -9,10 +8,6 @@ use Rattle.gas_model.specs.Near.{number_at}
 use Rattle.gas_model.specs.Points.{net_flow}
 use Rattle.topo.specs.Graphs.{Graph, graph_of}
 use Rattle.topo.specs.Walks.{Step, step_at, far_of}
-
--- half of both ends, rounded down
-abbrev pub middle : Ends → ℤ
-middle e = int_div_euclid (e.lo +ℤ e.hi) (pos 2)
 
 -- the value between the ends that is nearest to x
 abbrev pub nearest : Ends → ℤ → ℤ
@@ -58,7 +53,7 @@ pub record AreFlowBoxes (boxes : List Ends) : Type 0 where
   pub order : (a : ℕ) → a < length boxes → (box_at boxes a).lo ≤ℤ (box_at boxes a).hi
 
 -- the ends of the arcs are different nodes
-pub record AreEnds (arcs : List ArcRow) (nodes : ℕ) : Type 0 where
+pub record AreGraphEnds (arcs : List ArcRow) (nodes : ℕ) : Type 0 where
   pub from : (a : ℕ) → a < length arcs → (graph_of arcs).from a < nodes
   pub to : (a : ℕ) → a < length arcs → (graph_of arcs).to a < nodes
   pub apart : (a : ℕ) → a < length arcs → (graph_of arcs).from a ≢ (graph_of arcs).to a

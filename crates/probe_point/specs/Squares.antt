@@ -4,17 +4,22 @@ use Rattle.std.specs.Int.{int_div_euclid}
 use Rattle.std.specs.Ordering.{int_eq}
 use Rattle.gas_units.specs.Rounds.{IsRootDown}
 use Rattle.gas_model.specs.declared.rows.ArcRow.{ArcRow}
-use Rattle.gas_model.specs.declared.rows.ArcState.{ArcState}
+use Rattle.base_types.specs.declared.states.ArcState.{ArcState}
 use Rattle.gas_model.specs.declared.rows.Drag.{Drag}
+use Rattle.gas_model.specs.declared.law_forms.PipeLaw.{PipeLaw}
 use Rattle.gas_model.specs.declared.rows.Ends.{Ends}
-use Rattle.gas_model.specs.Limits.{is_kind_within, is_square}
+use Rattle.gas_model.specs.Limits.{is_kind_within}
+use Rattle.base_types.specs.Numbers.{is_square}
 use Rattle.gas_model.specs.Curves.{square}
-use Rattle.gas_model.specs.Laws.{LawForm, drags, loses, reduces, raises, form_of}
+use Rattle.gas_model.specs.declared.law_forms.LawForm.{LawForm}
+use Rattle.gas_model.specs.declared.law_forms.LawForm.TheVariants.{Drags, Loses, Reduces, Raises}
+use Rattle.gas_model.specs.Laws.{form_of}
 use Rattle.gas_model.specs.Near.{number_at}
 use Rattle.gas_model.specs.Points.{state_at}
 use Rattle.topo.specs.Graphs.{graph_of, no_arc}
 use Rattle.topo.specs.Walks.{Step, step_at, far_of}
-use Rattle.probe_point.specs.Probes.{middle, nearest, box_at}
+use Rattle.box_ends.specs.Middle.{middle}
+use Rattle.probe_point.specs.Probes.{nearest, box_at}
 
 -- what the squares fall by at the flow q by the middle of a resistance, rounded down
 abbrev pub middle_drop : Drag → ℤ → ℤ
@@ -25,8 +30,8 @@ abbrev pub leads_out : Bool → ℤ → Bool
 leads_out at_from q = if at_from then int_le (pos 0) q else int_lt q (pos 0)
 
 -- the square behind a resistance, or before it
-abbrev pub dragged : Drag → Bool → (q x : ℤ) → ℤ
-dragged law at_from q x = if leads_out at_from q then x -ℤ middle_drop law q else x +ℤ middle_drop law q
+abbrev pub dragged : PipeLaw → Bool → (q x : ℤ) → ℤ
+dragged law at_from q x = if leads_out at_from q then x -ℤ middle_drop law.drag q else x +ℤ middle_drop law.drag q
 
 -- the square behind a constant loss, or before it, where r is the root of the square x: none is below 0
 abbrev pub lossy : ℤ → Bool → (q r x : ℤ) → ℤ
@@ -37,10 +42,10 @@ lossy low at_from q r x =
 
 -- y is the square that the far end gets from the near end's square x, where q is the arc's flow and e the far end's box
 abbrev pub IsGiven : LawForm → Bool → Ends → (q x y : ℤ) → Type 0
-IsGiven (drags law) at_from e q x y = y ≡ dragged law at_from q x
-IsGiven (loses low high) at_from e q x y = (r : ℕ) × IsRootDown (unsigned_abs x) r × (y ≡ lossy low at_from q (pos r) x)
-IsGiven (reduces in_min out_max red_min red_max) at_from e q x y = y ≡ middle e
-IsGiven (raises in_min out_max ratio_num ratio_den rise_max) at_from e q x y = y ≡ middle e
+IsGiven (Drags law) at_from e q x y = y ≡ dragged law at_from q x
+IsGiven (Loses low high) at_from e q x y = (r : ℕ) × IsRootDown (unsigned_abs x) r × (y ≡ lossy low at_from q (pos r) x)
+IsGiven (Reduces in_min out_max red_min red_max) at_from e q x y = y ≡ middle e
+IsGiven (Raises in_min out_max ratio_num ratio_den rise_max) at_from e q x y = y ≡ middle e
 IsGiven form at_from e q x y = y ≡ x
 
 -- z is the value of the far end's box that is nearest to it

@@ -2,11 +2,12 @@
 ghost use Rattle.std.specs.Prelude.{◌≡◌, ◌<◌, ◌≤◌, ◌+◌, ℕ, ℤ, length};
 ghost use Rattle.integer_laws.specs.Sizes.{IsWithin};
 ghost use Rattle.gas_model.specs.Near.{number_at};
-ghost use Rattle.probe_point.specs.Probes.{middle, box_at, AreNeeds, AreSmall, AreFlowBoxes, AreEnds};
+ghost use Rattle.box_ends.specs.Middle.{middle};
+ghost use Rattle.probe_point.specs.Probes.{box_at, AreNeeds, AreSmall, AreFlowBoxes, AreGraphEnds};
 ghost use Rattle.probe_point.specs.Chords.{HasMiddles, KeepsTheRest, AreDistinctArcs, HaveNoFlow};
 
 use crate::flows::give;
-use crate::numbers::middle;
+use box_ends::middle;
 use gas_model::{ArcRow, Ends};
 
 // The middle of the box of an arc.
@@ -27,7 +28,7 @@ pub fn chord_flows(
     flows: &mut [i128],
     need: &mut [i128],
 )
-    requires ends { AreEnds arcs.now (length need.old) }
+    requires ends { AreGraphEnds arcs.now (length need.old) }
     requires boxes { AreFlowBoxes boxes.now }
     requires box_of_each { length boxes.now ≡ length arcs.now }
     requires flow_of_each { length flows.old ≡ length arcs.now }

@@ -4,7 +4,7 @@ ghost use Rattle.integer_laws.specs.Sizes.{IsWithin};
 ghost use Rattle.gas_model.specs.Near.{number_at};
 ghost use Rattle.topo.specs.Graphs.{graph_of};
 ghost use Rattle.topo.specs.Walks.{step_at, far, InOrder};
-ghost use Rattle.probe_point.specs.Probes.{nearest, box_at, taking_up, AreNeeds, AreSmall, AreFlowBoxes, AreEnds, HasTreeFlows, KeepsOthers};
+ghost use Rattle.probe_point.specs.Probes.{nearest, box_at, taking_up, AreNeeds, AreSmall, AreFlowBoxes, AreGraphEnds, HasTreeFlows, KeepsOthers};
 
 use crate::numbers::nearest;
 use gas_model::{ArcRow, Ends};
@@ -60,7 +60,7 @@ fn take(need: &mut [i128], node: u32, x: i128)
 pub fn give(flows: &mut [i128], need: &mut [i128], arcs: &[ArcRow], arc: u32, flow: i128)
     requires arc { arc < length arcs.now }
     requires place { arc < length flows.old }
-    requires ends { AreEnds arcs.now (length need.old) }
+    requires ends { AreGraphEnds arcs.now (length need.old) }
     requires flow { IsWithin 1000000000000 flow }
     requires need { AreSmall 5000 need.old }
     ensures flows { flows.new ≡ slice_set flows.old arc flow }
@@ -81,7 +81,7 @@ pub fn tree_flows(
     flows: &mut [i128],
     need: &mut [i128],
 )
-    requires ends { AreEnds arcs.now (length need.old) }
+    requires ends { AreGraphEnds arcs.now (length need.old) }
     requires boxes { AreFlowBoxes boxes.now }
     requires box_of_each { length boxes.now ≡ length arcs.now }
     requires flow_of_each { length flows.old ≡ length arcs.now }

@@ -5,18 +5,15 @@
 mod choices;
 mod choosing;
 mod chords;
+mod exactly_one;
 mod flows;
 mod hull;
-mod laws;
 mod numbers;
 mod probing;
-mod roots;
 mod squares;
 mod supplies;
+mod tree_roots;
 
 pub use choosing::{Chosen, is_same_part};
-pub use laws::{one_probe, one_square, one_tree_flow};
+pub use exactly_one::{one_probe, one_square, one_tree_flow, some_probe};
 pub use probing::{probe, probe_chosen};
-
-#[cfg(test)]
-mod tests;

@@ -4,19 +4,21 @@ ghost use Rattle.std.specs.Int.{int_div_euclid};
 ghost use Rattle.std.specs.Ordering.{int_eq};
 ghost use Rattle.integer_laws.specs.Sizes.{IsWithin};
 ghost use Rattle.gas_units.specs.Rounds.{IsRootDown};
-ghost use Rattle.gas_model.specs.declared.rows.ArcState.TheVariants.{Opened, Active};
+ghost use Rattle.base_types.specs.declared.states.ArcState.TheVariants.{Opened, Active};
 ghost use Rattle.gas_model.specs.declared.rows.Ends.{Ends};
 ghost use Rattle.gas_model.specs.Curves.{square};
-ghost use Rattle.gas_model.specs.Limits.{is_drag_within, is_difference, is_kind_within, is_square};
-ghost use Rattle.gas_model.specs.Laws.{form_of};
+ghost use Rattle.gas_model.specs.Limits.{is_drag_within, is_kind_within};
+ghost use Rattle.base_types.specs.Numbers.{is_difference, is_square};
+ghost use Rattle.gas_model.specs.Laws.{form_of, is_pipe_within};
 ghost use Rattle.gas_model.specs.Near.{number_at};
 ghost use Rattle.topo.specs.Graphs.{graph_of, no_arc};
 ghost use Rattle.topo.specs.Walks.{step_at, far, InOrder};
-ghost use Rattle.probe_point.specs.Probes.{nearest, box_at, AreSmall, AreEnds};
+ghost use Rattle.probe_point.specs.Probes.{nearest, box_at, AreSmall, AreGraphEnds};
 ghost use Rattle.probe_point.specs.Squares.{middle_drop, leads_out, dragged, lossy, IsGiven, IsFarSquare, HasSquares, AreSquareBoxes, AreSquares, AreKindsWithin, IsStepSquare, KeepsNearSquares};
 
-use crate::numbers::{middle, nearest};
-use gas_model::{ArcKind, ArcRow, ArcState, Drag, Ends};
+use crate::numbers::nearest;
+use box_ends::middle;
+use gas_model::{ArcKind, ArcRow, ArcState, Drag, Ends, PipeLaw, level};
 use gas_units::root_down;
 use topo::far;
 
@@ -85,13 +87,13 @@ fn leads_out(at_from: bool, q: i128) -> bool
 }
 
 // The square behind a resistance, or before it.
-fn dragged(law: &Drag, at_from: bool, q: i128, x: i128) -> i128
-    requires law { IsTrue (is_drag_within law.now) }
+fn dragged(law: &PipeLaw, at_from: bool, q: i128, x: i128) -> i128
+    requires law { IsTrue (is_pipe_within law.now) }
     requires flow { IsWithin 1000000000000 q }
     requires near { IsTrue (is_square x) }
     ensures { result ≡ dragged law.now at_from q x }
 {
-    let drop = middle_drop(law, q);
+    let drop = middle_drop(&law.drag, q);
     if leads_out(at_from, q) {
         x - drop
     } else {
@@ -189,7 +191,7 @@ fn given_opened(kind: &ArcKind, at_from: bool, q: i128, x: i128) -> i128
     ensures { (e : Ends) → IsGiven (form_of kind.now Opened) at_from e q x result }
 {
     match kind {
-        ArcKind::Pipe { law } | ArcKind::Resist { law } => dragged(law, at_from, q, x),
+        ArcKind::Pipe { law } | ArcKind::Resist { law } => dragged(&level(law), at_from, q, x),
         ArcKind::Loss { low, .. } => lossy(*low, at_from, q, x),
         _ => x,
     }
@@ -280,7 +282,7 @@ pub fn far_squares(
     flows: &[i128],
     squares: &mut [i128],
 )
-    requires ends { AreEnds arcs.now (length squares.old) }
+    requires ends { AreGraphEnds arcs.now (length squares.old) }
     requires states { length states.now ≡ length arcs.now }
     requires flow_of_each { length flows.now ≡ length arcs.now }
     requires box_of_each { length boxes.now ≡ length squares.old }

@@ -1,12 +1,12 @@
 // The middle supplies of nodes, and lists of numbers.
 ghost use Rattle.std.specs.Prelude.{◌≡◌, ◌<◌, ◌^◌, ℕ, pos, length, replicate, IfOk, IsTrue};
 ghost use Rattle.integer_laws.specs.Sizes.{IsWithin};
-ghost use Rattle.gas_model.specs.Limits.{is_flow};
+ghost use Rattle.base_types.specs.Numbers.{is_flow};
 ghost use Rattle.gas_model.specs.Near.{number_at};
 ghost use Rattle.probe_point.specs.Probes.{AreSmall};
 ghost use Rattle.probe_point.specs.Points.{middle_supply, middle_supplies};
 
-use crate::numbers::middle;
+use box_ends::middle;
 use gas_model::{Ends, List, NoMemory, NodeRow, Problem};
 use std::alloc::Global;
 

@@ -7,12 +7,13 @@ use Rattle.tree_pool.specs.declared.node.WorkEnd.{WorkEnd}
 use Rattle.tree_pool.specs.declared.node.WorkEnd.TheVariants as ends
 use Rattle.tree_pool.specs.Nodes.{branch_of, is_waiting}
 use Rattle.tree_pool.specs.Rows.{Row, Standing, Waiting, Held, Quit, Shuts, Splits, update, fill, stand, child_rows, after, one, is_split, total, splits, IsFirstWaiting}
-use Rattle.tree_pool.proofs.Lists.{length-update}
-use Rattle.tree_pool.proofs.Totals.{total_update, total_append}
+use Rattle.tree_pool.proofs.Lists.{length-update, length-child_rows}
+use Rattle.tree_pool.proofs.Totals.{total_update, total_append, splits_children}
 use Rattle.search_order.specs.Searches.{SearchRules}
 use Rattle.search_order.specs.Turns.{IsTurn, splits_by, waits, remains}
 use Rattle.search_order.specs.Laws.{TurnsShrink}
-use Rattle.search_order.proofs.Given.{standing_by, heads_by, given_taken, taken_row, count_heads}
+use Rattle.tree_pool.specs.Laws.{heads_by}
+use Rattle.tree_pool.proofs.GivenBack.{standing_by, given_taken, taken_row, count_heads}
 
 one_split : (rows : List Row) (e : WorkEnd) → one (is_split (standing_by rows e)) ≡ splits_by e
 one_split rows (ends.Shut c) = refl
@@ -29,17 +30,9 @@ small_split (ends.Shut c) = omega arith
 small_split (ends.Split by heads) = omega arith
 small_split ends.Left = omega arith
 
-children_split : (path : List ℕ) (k : ℕ) (heads : List Head) → splits (child_rows path k heads) ≡ 0
-children_split path k [] = refl
-children_split path k (x ∷ heads) = let e = children_split path (suc k) heads in omega arith
-
 children_wait : (path : List ℕ) (k : ℕ) (heads : List Head) → waits (child_rows path k heads) ≡ length heads
 children_wait path k [] = refl
 children_wait path k (x ∷ heads) = let e = children_wait path (suc k) heads in omega arith
-
-children_count : (path : List ℕ) (k : ℕ) (heads : List Head) → length (child_rows path k heads) ≡ length heads
-children_count path k [] = refl
-children_count path k (x ∷ heads) = ap suc (children_count path (suc k) heads)
 
 module _ (rows : List Row) (n : ℕ) (r : Row) (here : slice_get rows n ≡ Some r) (waiting : r.standing ≡ Waiting) (xs : List Step) (e : WorkEnd) where
   abbrev made : List Row
@@ -49,7 +42,7 @@ module _ (rows : List Row) (n : ℕ) (r : Row) (here : slice_get rows n ≡ Some
   pub splits_made : splits made ≡ splits rows + splits_by e
   splits_made =
       let a = total_append (λ q. one (is_split q.standing)) (update rows n (fill xs (standing_by rows e))) (child_rows r.path 0 (heads_by e)) in
-      let b = children_split r.path 0 (heads_by e) in
+      let b = splits_children r.path 0 (heads_by e) in
       let c = total_update (λ q. one (is_split q.standing)) rows n r (fill xs (standing_by rows e)) here in
       let d : one (is_split r.standing) ≡ 0 = rw waiting refl in
       let f = one_split rows e in
@@ -68,7 +61,7 @@ module _ (rows : List Row) (n : ℕ) (r : Row) (here : slice_get rows n ≡ Some
   length_made =
       let a = length-append (update rows n (fill xs (standing_by rows e))) (child_rows r.path 0 (heads_by e)) in
       let b = length-update rows n (fill xs (standing_by rows e)) in
-      let c = children_count r.path 0 (heads_by e) in
+      let c = length-child_rows r.path 0 (heads_by e) in
       omega arith
 
 -- taking changes no count of split boxes

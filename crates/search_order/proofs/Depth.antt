@@ -11,45 +11,8 @@ use Rattle.search_order.specs.Searches.{SearchRules, StopsAt}
 use Rattle.search_order.proofs.PathOrder.{total, earlier_length}
 use Rattle.search_order.specs.Levels.{width, levels, IsNarrow}
 use Rattle.search_order.specs.Laws.{StopsDeep}
-
-same_row : {A : Type 0} (xs : List A) (m n : ℕ) (x y : A) → slice_get xs m ≡ Some x → slice_get xs n ≡ Some y → m ≡ n → x ≡ y
-same_row xs m n x y h g e = cc
-
-abbrev Member : {A : Type 0} → A → List A → Type 0
-Member x [] = ⊥
-Member x (y ∷ ys) = (x ≡ y) ⊎ Member x ys
-
-abbrev Apart : {A : Type 0} → List A → Type 0
-Apart [] = Unit {0}
-Apart (x ∷ xs) = (Member x xs → ⊥) × Apart xs
-
--- the list without one of its members
-without : {A : Type 0} (x : A) (ys : List A) → Member x ys → (zs : List A) × (length ys ≡ suc (length zs)) × ((z : A) → z ≢ x → Member z ys → Member z zs)
-without x [] h = absurd h
-without x (y ∷ ys) h =
-    elim h [
-      | inl e ↦ (ys, refl, λ z ne m. elim m [ inl a ↦ absurd (ne (a ∙ sym e)) | inr b ↦ b ])
-      | inr i ↦
-          let w = without x ys i in
-          (y ∷ w.0, ap suc w.1, λ z ne m. elim m [ inl a ↦ inl a | inr b ↦ inr (w.2 z ne b) ])
-    ]
-
--- distinct members of a list are no more than it has
-pigeon : {A : Type 0} (xs ys : List A) → Apart xs → ((x : A) → Member x xs → Member x ys) → length xs ≤ length ys
-pigeon [] ys apart all = omega arith
-pigeon (x ∷ xs) ys apart all =
-    let w = without x ys (all x (inl refl)) in
-    let rest = pigeon xs w.0 apart.1 (λ z m. w.2 z (λ e. apart.0 (subst (λ (k : _). Member k xs) e m)) (all z (inr m))) in
-    let e = w.1 in
-    omega arith
-
-member_left : {A : Type 0} (x : A) (xs ys : List A) → Member x xs → Member x (xs ++ ys)
-member_left x [] ys h = absurd h
-member_left x (y ∷ xs) ys h = elim h [ inl e ↦ inl e | inr m ↦ inr (member_left x xs ys m) ]
-
-member_right : {A : Type 0} (x : A) (xs ys : List A) → Member x ys → Member x (xs ++ ys)
-member_right x [] ys h = h
-member_right x (y ∷ xs) ys h = inr (member_right x xs ys h)
+use Rattle.tree_pool.proofs.Lists.{same_row}
+use Rattle.search_order.proofs.Members.{Member, Apart, pigeon, member_left, member_right}
 
 -- the paths of the children of a path, and of all the paths of a list
 abbrev child_paths : ℕ → List ℕ → List (List ℕ)

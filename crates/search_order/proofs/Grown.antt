@@ -1,7 +1,7 @@
 -- A turn keeps what is known.
 use Rattle.std.proofs.Common.{◌≡◌, ◌≢◌, ℕ, zero, suc, ◌+◌, ◌*◌, ◌<◌, ◌≤◌, List, [], ◌∷◌, ◌++◌, map, length, Option, Some, None, refl, sym, ap, subst, ◌∙◌, ◌⊎◌, inl, inr, arith, length-append}
-use Rattle.std.specs.Prelude.{slice_get}
-use Rattle.std.proofs.lemmas.List.{append-nil, length-map}
+use Rattle.std.specs.Prelude.{slice_get, replicate}
+use Rattle.std.proofs.lemmas.List.{append-nil, length-map, length-replicate}
 use Rattle.std.proofs.lemmas.Option.{slice_get_within}
 use Rattle.tree_cert.specs.declared.line.Step.{Step}
 use Rattle.tree_cert.specs.declared.line.Head.{Head}
@@ -13,37 +13,18 @@ use Rattle.tree_pool.specs.Nodes.{branch_of}
 use Rattle.tree_pool.specs.Path.{IsEarlier}
 use Rattle.tree_pool.specs.Rows.{Row, Standing, Waiting, Held, Quit, Shuts, Splits, NotSplit, IsMap, IsFirstWaiting, update, fill, stand, child_rows, after, first_row, splits}
 use Rattle.tree_pool.specs.Rules.{Boxes, after_steps, IsOf}
-use Rattle.tree_pool.specs.Laws.{EndFits, WorkFits}
+use Rattle.tree_pool.specs.Laws.{EndFits, WorkFits, heads_by}
 use Rattle.tree_pool.specs.Calls.{given_rows}
-use Rattle.tree_pool.proofs.Lists.{get_updated, get_left, get_right, length-update}
-use Rattle.tree_pool.proofs.Kept.{KeepsPlace, Source, IsChild, Becomes, within, origin, moved, placed, map_after, map_updated}
+use Rattle.tree_pool.proofs.Lists.{get_updated, get_left, get_right, length-update, from_map, to_map, get_replicate}
+use Rattle.tree_pool.proofs.RowChanges.{KeepsPlace, Source, IsChild, Becomes, origin, moved, placed, map_after, map_updated}
 use Rattle.tree_pool.proofs.Paths.{earlier_trans, before_child}
 use Rattle.tree_pool.proofs.Ruled.{new_is_of, standing_keeps, giving_keeps}
 use Rattle.search_order.specs.Searches.{SearchRules, IsLeft, HaveHeads, KnownAt, IsKnown, IsWorked}
-use Rattle.search_order.specs.Turns.{EndKnown, IsTurn, repeated}
+use Rattle.search_order.specs.Turns.{EndKnown, IsTurn}
 use Rattle.search_order.specs.Laws.{SearchBegins, TurnsKeep}
 use Rattle.search_order.proofs.Counts.{new_is, within_after}
-use Rattle.search_order.proofs.Given.{standing_by, heads_by, given_taken, becomes_by, worked_by, waiting_whole, heads_are, count_heads}
-
-get_repeated : (count turn k : ℕ) → k < count → slice_get (repeated count turn) k ≡ Some turn
-get_repeated zero turn k lt = absurd (omega arith)
-get_repeated (suc count) turn zero lt = refl
-get_repeated (suc count) turn (suc k) lt = get_repeated count turn k (omega arith)
-
-pub length-repeated : (count turn : ℕ) → length (repeated count turn) ≡ count
-length-repeated zero turn = refl
-length-repeated (suc count) turn = ap suc (length-repeated count turn)
-
--- item k of a list is what item k of another gives
-mapped_back : {A B : Type 0} (f : A → B) (xs : List A) (k : ℕ) (y : B) → slice_get (map f xs) k ≡ Some y → (x : A) × (slice_get xs k ≡ Some x) × (f x ≡ y)
-mapped_back f [] k y h = absurd cc
-mapped_back f (x ∷ xs) zero y h = (x, refl, cc)
-mapped_back f (x ∷ xs) (suc k) y h = mapped_back f xs k y h
-
-mapped : {A B : Type 0} (f : A → B) (xs : List A) (k : ℕ) (x : A) → slice_get xs k ≡ Some x → slice_get (map f xs) k ≡ Some (f x)
-mapped f [] k x at = absurd cc
-mapped f (y ∷ ys) zero x at = let e : y ≡ x = cc in ap (λ z. Some (f z)) e
-mapped f (y ∷ ys) (suc k) x at = mapped f ys k x at
+use Rattle.tree_pool.proofs.GivenBack.{standing_by, given_taken, becomes_by, worked_by, heads_are, count_heads}
+use Rattle.tree_pool.proofs.PoolKeeps.{waiting_whole}
 
 module _ (s : SearchRules) (rows : List Row) (boxes : Boxes s.tree) (turns : List ℕ) (new : List Row) (more : Boxes s.tree) (later : List ℕ)
     (moves : (m : ℕ) (q : Row) → slice_get rows m ≡ Some q → (y : Row) × (slice_get new m ≡ Some y) × (y.path ≡ q.path) × (y.head ≡ q.head)) where
@@ -79,7 +60,7 @@ module _ (s : SearchRules) (root : s.tree.Box) (budget : ℕ) (rows : List Row) 
   more = map (λ k. k.1) kids
 
   abbrev later : List ℕ
-  later = repeated (length kids) next
+  later = replicate (length kids) next
 
   becomes : Becomes rows first.row (fill xs (standing_by rows e)) (heads_by e)
   becomes = becomes_by rows first.row xs e first.waits
@@ -105,20 +86,20 @@ module _ (s : SearchRules) (root : s.tree.Box) (budget : ℕ) (rows : List Row) 
 
   -- child k has its head, box and turn
   child_known : (k : ℕ) (x : Head) → slice_get (heads_by e) k ≡ Some x → (kid : Head × s.tree.Box) × (slice_get kids k ≡ Some kid) × (kid.0 ≡ x)
-  child_known k x at = mapped_back (λ (k : Head × s.tree.Box). k.0) kids k x (let a = heads_are s.tree box e kids fits in rw (← a) at)
+  child_known k x at = from_map (λ (k : Head × s.tree.Box). k.0) kids k x (let a = heads_are s.tree box e kids fits in rw (← a) at)
 
   turn_of_child : (k : ℕ) (kid : Head × s.tree.Box) → slice_get kids k ≡ Some kid → slice_get (turns ++ later) (length rows + k) ≡ Some next
   turn_of_child k kid at =
       let a = slice_get_within kids k kid at in
       let b = get_right turns later k in
-      let c = get_repeated (length kids) next k a in
+      let c = get_replicate (length kids) next k a in
       let d = inv.count in
       rw (← d) (b ∙ c)
 
   box_of_child : (k : ℕ) (kid : Head × s.tree.Box) → slice_get kids k ≡ Some kid → slice_get (boxes ++ more) (length rows + k) ≡ Some kid.1
   box_of_child k kid at =
       let b = get_right boxes more k in
-      let c = mapped (λ (k : Head × s.tree.Box). k.1) kids k kid at in
+      let c = to_map (λ (k : Head × s.tree.Box). k.1) kids k kid at in
       let d = sized in
       rw (← d) (b ∙ c)
 
@@ -220,7 +201,7 @@ module _ (s : SearchRules) (root : s.tree.Box) (budget : ℕ) (rows : List Row) 
   count_after : length (turns ++ later) ≡ length new
   count_after =
       let a = length-append turns later in
-      let b = length-repeated (length kids) next in
+      let b = length-replicate (length kids) next in
       let c = length-append boxes more in
       let d = length-map kids (λ (k : Head × s.tree.Box). k.1) in
       let f = pool_after.count in
@@ -246,8 +227,8 @@ turns_keep s root most budget rows boxes turns new2 boxes2 turns2 n e inv first 
     let within_it = within_after s most budget rows boxes turns new2 boxes2 turns2 n e first turn in
     let worked = worked_after s root budget rows boxes turns inv n first turn.steps e turn.kids turn.turn turn.next turn.box turn.left turn.fits turn.known (subst (λ (rs : List Row). splits rs ≤ budget) is within_it) in
     subst (λ (ts : List ℕ). IsWorked s root budget new2 boxes2 ts) (sym turn.turns_are)
-    (subst (λ (bs : Boxes s.tree). IsWorked s root budget new2 bs (turns ++ repeated (length turn.kids) turn.next)) (sym turn.boxes_are)
-    (subst (λ (rs : List Row). IsWorked s root budget rs (boxes ++ map (λ k. k.1) turn.kids) (turns ++ repeated (length turn.kids) turn.next)) (sym is) worked))
+    (subst (λ (bs : Boxes s.tree). IsWorked s root budget new2 bs (turns ++ replicate (length turn.kids) turn.next)) (sym turn.boxes_are)
+    (subst (λ (rs : List Row). IsWorked s root budget rs (boxes ++ map (λ k. k.1) turn.kids) (turns ++ replicate (length turn.kids) turn.next)) (sym is) worked))
 
 only_row : (m : ℕ) (r : Row) → slice_get (first_row ∷ []) m ≡ Some r → (m ≡ 0) × (r ≡ first_row)
 only_row zero r h = (refl, cc)

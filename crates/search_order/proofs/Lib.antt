@@ -1,7 +1,7 @@
-pub mod Given
 pub mod Counts
 pub mod Grown
 pub mod Stops
 pub mod Quits
 pub mod PathOrder
 pub mod Depth
+pub mod Members

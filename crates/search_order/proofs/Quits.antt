@@ -8,11 +8,12 @@ use Rattle.tree_pool.specs.declared.node.WorkEnd.TheVariants as ends
 use Rattle.tree_pool.specs.Path.{IsEarlier}
 use Rattle.tree_pool.specs.Rows.{Row, Standing, Waiting, Held, Quit, Shuts, Splits, IsMap, IsFirstWaiting, update, fill, stand, after}
 use Rattle.tree_pool.specs.Rules.{Boxes}
-use Rattle.tree_pool.proofs.Kept.{Becomes, Source, IsChild, origin, unmoved, changed}
+use Rattle.tree_pool.proofs.RowChanges.{Becomes, Source, IsChild, origin, unmoved, changed}
 use Rattle.search_order.specs.Searches.{SearchRules, IsWorked, NoneQuit, IsFirstQuit, FirstQuit}
 use Rattle.search_order.specs.Turns.{IsTurn}
 use Rattle.search_order.specs.Laws.{quit_then, FirstQuitStays}
-use Rattle.search_order.proofs.Given.{standing_by, heads_by, becomes_by}
+use Rattle.tree_pool.specs.Laws.{heads_by}
+use Rattle.tree_pool.proofs.GivenBack.{standing_by, becomes_by}
 use Rattle.search_order.proofs.Counts.{new_is}
 
 not_quit : (e : WorkEnd) → (e ≢ ends.Left) → (rows : List Row) → standing_by rows e ≢ Quit

@@ -13,14 +13,15 @@ use Rattle.tree_pool.specs.Rules.{Boxes, after_steps, IsOf}
 use Rattle.tree_pool.specs.Laws.{WorkFits}
 use Rattle.tree_pool.specs.Calls.{given_rows}
 use Rattle.tree_pool.proofs.Lists.{get_updated, updated_cases}
-use Rattle.tree_pool.proofs.Kept.{KeepsPlace, target, map_updated}
+use Rattle.tree_pool.proofs.RowChanges.{KeepsPlace, target, map_updated}
 use Rattle.tree_pool.proofs.Paths.{earlier_trans, not_earlier}
 use Rattle.tree_pool.proofs.Totals.{splits_updated}
 use Rattle.tree_pool.proofs.Ruled.{standing_keeps, giving_keeps}
 use Rattle.search_order.specs.Searches.{SearchRules, IsLeft, KnownAt, IsKnown, IsWorked, StopsAt}
 use Rattle.search_order.specs.Turns.{IsFull}
 use Rattle.search_order.specs.Laws.{FullStops}
-use Rattle.search_order.proofs.Given.{update_twice, taken_row, waiting_whole}
+use Rattle.tree_pool.proofs.GivenBack.{update_twice, taken_row}
+use Rattle.tree_pool.proofs.PoolKeeps.{waiting_whole}
 use Rattle.search_order.proofs.Counts.{splits_taken}
 use Rattle.search_order.proofs.Grown.{known_kept}
 

@@ -1,5 +1,5 @@
 -- One turn of a search: a held box is given back.
-use Rattle.std.specs.Prelude.{◌≡◌, ℕ, zero, suc, ◌+◌, ◌*◌, ◌-◌, ◌≤◌, List, [], ◌∷◌, ◌++◌, map, length, Option, Some, None, slice_get}
+use Rattle.std.specs.Prelude.{◌≡◌, ℕ, ◌+◌, ◌*◌, ◌-◌, ◌≤◌, List, ◌++◌, map, length, Some, slice_get, replicate}
 use Rattle.tree_cert.specs.declared.line.Step.{Step}
 use Rattle.tree_cert.specs.declared.line.Head.{Head}
 use Rattle.tree_pool.specs.declared.node.WorkEnd.{WorkEnd}
@@ -10,11 +10,6 @@ use Rattle.tree_pool.specs.Rules.{Boxes}
 use Rattle.tree_pool.specs.Laws.{EndFits}
 use Rattle.tree_pool.specs.Calls.{given_rows}
 use Rattle.search_order.specs.Searches.{SearchRules, IsLeft}
-
--- so many times the same number
-abbrev pub repeated : (count turn : ℕ) → List ℕ
-repeated zero turn = []
-repeated (suc count) turn = turn ∷ repeated count turn
 
 -- what is known of a box by the end of the work on it
 abbrev pub EndKnown : (s : SearchRules) → WorkEnd → (turn : ℕ) → s.tree.Box → (next : ℕ) → Type 0
@@ -44,7 +39,7 @@ pub record IsTurn (s : SearchRules) (most budget : ℕ) (rows : List Row) (boxes
   pub room : splits rows + splits_by end ≤ budget
   pub rows_are : new ≡ given_rows rows n row.path steps end
   pub boxes_are : boxes2 ≡ boxes ++ map (λ k. k.1) kids
-  pub turns_are : turns2 ≡ turns ++ repeated (length kids) next
+  pub turns_are : turns2 ≡ turns ++ replicate (length kids) next
 
 -- box n was left open for want of budget
 pub record IsFull (s : SearchRules) (budget : ℕ) (rows : List Row) (boxes : Boxes s.tree) (turns : List ℕ) (new : List Row) (n : ℕ) : Type 0 where

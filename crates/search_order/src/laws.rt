@@ -1,4 +1,4 @@
-// The laws, on functions that do nothing.
+// What holds of each search in breadth-first order, on functions that do nothing.
 ghost use Rattle.search_order.specs.Searches.{SearchRules};
 ghost use Rattle.search_order.specs.Laws.{SearchBegins, TurnsKeep, TurnsShrink, FirstQuitStays, FullStops, StopsDeep};
 

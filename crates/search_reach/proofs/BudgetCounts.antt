@@ -8,8 +8,8 @@ use Rattle.std.proofs.lemmas.Int.{ints}
 use Rattle.std.proofs.lemmas.List.Sums.{sum_by-cons}
 use borrow.Author.Tests.{ltb-true}
 use Rattle.integer_laws.proofs.Ring.{linear}
-use Rattle.gas_model.specs.declared.rows.Var.{Var}
-use Rattle.gas_model.specs.declared.rows.Var.TheVariants.{Flow, Square}
+use Rattle.base_types.specs.declared.variables.Var.{Var}
+use Rattle.base_types.specs.declared.variables.Var.TheVariants.{Flow, Square}
 use Rattle.gas_model.specs.Rows.{Network}
 use Rattle.gas_model.specs.Boxes.{Bounds, BoxFits, is_in_box}
 use Rattle.std.specs.Prelude.{IsTrue}
@@ -17,10 +17,10 @@ use Rattle.tree_cert.specs.declared.line.Head.{Head}
 use Rattle.tree_cert.specs.declared.line.Head.TheVariants.{Take, State, Half}
 use Rattle.search_reach.specs.Budgets.{least_from, doublings, variables}
 use Rattle.search_reach.specs.Widths.{is_half, halves}
-use Rattle.search_reach.proofs.DepthLists.{Member}
 use Rattle.search_reach.proofs.WidthEnds.{var_self}
 use Rattle.search_reach.proofs.WidthHalves.{count, count_this}
 use Rattle.search_reach.proofs.WidthTurns.{more_halves}
+use Rattle.search_order.proofs.Members.{Member, member_left, member_right}
 
 -- ---- sums
 pub sum_less : {A : Type 0} (f g : A → ℕ) (xs : List A) → ((x : A) → f x ≤ g x) → sum_by f xs ≤ sum_by g xs
@@ -85,14 +85,6 @@ in_map : {A B : Type 0} (f : A → B) (x : A) (xs : List A) → Member x xs → 
 in_map f x [] h = absurd h
 in_map f x (y ∷ xs) h = elim h [ inl e ↦ inl (ap f e) | inr m ↦ inr (in_map f x xs m) ]
 
-in_left : {A : Type 0} (x : A) (xs ys : List A) → Member x xs → Member x (xs ++ ys)
-in_left x [] ys h = absurd h
-in_left x (y ∷ xs) ys h = elim h [ inl e ↦ inl e | inr m ↦ inr (in_left x xs ys m) ]
-
-in_right : {A : Type 0} (x : A) (xs ys : List A) → Member x ys → Member x (xs ++ ys)
-in_right x [] ys h = h
-in_right x (y ∷ xs) ys h = inr (in_right x xs ys h)
-
 numbered : {A : Type 0} (f : ℕ → A) (n i : ℕ) → i < n → Member (f i) (map f (range_with_len 0 n))
 numbered f n i lt =
     let e : 0 + i ≡ i = omega arith in
@@ -102,11 +94,11 @@ pub is_variable : (p : Network) (b : Bounds) (v : Var) → BoxFits p b → IsTru
 is_variable p b (Flow a) fits is =
     let lt = ltb-true a _ is in
     let e = fits.flows in
-    in_left (Flow a) (map Flow (range_with_len 0 (length p.arcs))) (map Square (range_with_len 0 (length p.nodes))) (numbered Flow (length p.arcs) a (omega arith))
+    member_left (Flow a) (map Flow (range_with_len 0 (length p.arcs))) (map Square (range_with_len 0 (length p.nodes))) (numbered Flow (length p.arcs) a (omega arith))
 is_variable p b (Square n) fits is =
     let lt = ltb-true n _ is in
     let e = fits.squares in
-    in_right (Square n) (map Flow (range_with_len 0 (length p.arcs))) (map Square (range_with_len 0 (length p.nodes))) (numbered Square (length p.nodes) n (omega arith))
+    member_right (Square n) (map Flow (range_with_len 0 (length p.arcs))) (map Square (range_with_len 0 (length p.nodes))) (numbered Square (length p.nodes) n (omega arith))
 
 -- ---- doublings
 below_power : (m : ℕ) → m < 2 ^ m

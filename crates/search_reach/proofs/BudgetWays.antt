@@ -5,7 +5,7 @@ use Rattle.std.specs.Option.{option_map_or}
 use Rattle.gas_model.specs.declared.rows.ArcRow.{ArcRow}
 use Rattle.gas_model.specs.declared.rows.Group.{Group}
 use Rattle.gas_model.specs.declared.rows.PartState.{PartState}
-use Rattle.gas_model.specs.declared.rows.Var.{Var}
+use Rattle.base_types.specs.declared.variables.Var.{Var}
 use Rattle.gas_model.specs.Rows.{Network}
 use Rattle.gas_model.specs.Boxes.{BoxFits}
 use Rattle.gas_model.specs.Choices.{allowed_states}
@@ -20,14 +20,16 @@ use Rattle.search_reach.specs.Budgets.{variables}
 use Rattle.search_reach.specs.Depth.{loose_arcs}
 use Rattle.search_reach.specs.Widths.{is_half}
 use Rattle.search_reach.proofs.BudgetCounts.{IsOneOf, AreOf, is_variable}
-use Rattle.search_reach.proofs.DepthForks.{ByGroup as GroupCase, ByArc as ArcCase, ByHalf as HalfCase}
+use Rattle.box_split.proofs.ForkCases.{ByGroup as GroupCase, ByArc as ArcCase, ByHalf as HalfCase}
 use Rattle.search_reach.proofs.DepthKids.{HasHead, group_child, arc_child}
-use Rattle.search_reach.proofs.DepthLists.{there}
 use Rattle.search_reach.proofs.DepthParts.{IsAt, group_is, group_next, half_next, arc_next, still_loose}
 use Rattle.search_reach.proofs.DepthTree.{cases_of}
-use Rattle.search_reach.proofs.WidthEnds.{steps_fit, steps_same_part, wide_in_box}
+use Rattle.search_reach.proofs.WidthEnds.{steps_same_part, wide_in_box}
 use Rattle.search_reach.proofs.WidthHalves.{count, count_this}
 use Rattle.search_reach.proofs.WidthWays.{IsBelow, Led, led_fits, IsQuiet, child_cases, half_head}
+use Rattle.tree_pool.proofs.Lists.{there}
+use Rattle.search_reach.proofs.WidthTurns.{half_part}
+use Rattle.search_reach.proofs.StepPairs.{after_fits}
 
 -- A child at depth d + 1: it is one of its depth, and it has a pick or a state, while there are groups or loose arcs, or a
 -- half.
@@ -37,9 +39,6 @@ pub record IsNext (p : Network) (d : ℕ) (h : Head) (part : PartState) : Type 0
 
 half_is : (v : Var) (low : Bool) (C : ℤ) (h : Head) → h ≡ Half v low C → is_half h ≡ true
 half_is v low C h e = rw e refl
-
-half_part : (c : PartBox) (v : Var) (low : Bool) (C : ℤ) (h : Head) → h ≡ Half v low C → (headed c h).part ≡ c.part
-half_part c v low C h e = rw e refl
 
 module _ (p : Network) (c : PartBox) (turn : ℕ) (h : Head) (b : PartBox) (next d : ℕ) (below : IsBelow p c turn h b next) (at : IsAt p d c.part) where
   has_head : (heads : List Head) → heads_of p c.part below.fork ≡ heads → HasHead c heads below.nth b
@@ -122,4 +121,4 @@ all_halved p root [] b turn fits led = tt
 all_halved p root (h ∷ hs) b turn fits led =
     let l = led.0 in
     let up = led_fits p root hs l.above l.from fits led.1 in
-    (one_halved p (after l.above l.steps) l.from h b turn (steps_fit p l.above l.steps up) l.below, all_halved p root hs l.above l.from fits led.1)
+    (one_halved p (after l.above l.steps) l.from h b turn (after_fits p l.above l.steps up) l.below, all_halved p root hs l.above l.from fits led.1)

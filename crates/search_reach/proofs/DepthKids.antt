@@ -3,9 +3,9 @@ use Rattle.std.proofs.Common.{◌≡◌, ℕ, zero, suc, ◌+◌, ◌<◌, Bool,
 use Rattle.std.specs.Prelude.{slice_get, is_some, option_map, option_and_then, if◌then◌else◌}
 use Rattle.std.specs.List.{range_with_len}
 use Rattle.gas_model.specs.declared.rows.ArcRow.{ArcRow}
-use Rattle.gas_model.specs.declared.rows.ArcState.{ArcState}
+use Rattle.base_types.specs.declared.states.ArcState.{ArcState}
 use Rattle.gas_model.specs.declared.rows.Group.{Group}
-use Rattle.gas_model.specs.declared.rows.Var.{Var}
+use Rattle.base_types.specs.declared.variables.Var.{Var}
 use Rattle.gas_model.specs.Rows.{Network}
 use Rattle.gas_model.specs.Boxes.{ends_of, is_var}
 use Rattle.gas_model.specs.Rulings.{pick_in, is_free}
@@ -18,6 +18,8 @@ use Rattle.tree_cert.specs.TreeRules.{Holds}
 use Rattle.tree_pool.specs.Rules.{after_steps, AreExpected}
 use Rattle.tree_rules.specs.Rules.{PartBox, step_holds, stepped}
 use Rattle.tree_rules.specs.Branches.{Wait, Heads, Halves, with_pick, with_state, headed, decision_heads, state_heads, after_branch, after_head, same_head, same_var, lies_inside, lower_half, upper_half, rules_of}
+use Rattle.tree_pool.proofs.Lists.{from_map}
+use Rattle.box_pool.proofs.ForkKids.{in_range}
 
 -- steps change no part state
 one_step : (p : Network) (c : PartBox) (b : PartBox) (x : Step) (xs : List Step) (held : Bool) → ((d : PartBox) → after_steps (rules_of p) d xs ≡ Some c → c.part ≡ d.part)
@@ -108,17 +110,6 @@ pub by_arc : (p : Network) (b : PartBox) (a : ℕ) (row : ArcRow) (P : Wait → 
 by_arc p b a row P here h =
     when_holds (is_free p b.part a row) (map (State a) (allowed_states p b.part a row)) (Heads b) P
     (subst (λ (o : Option ArcRow). Holds (option_map (Heads b) (option_and_then (state_heads p b.part a) o)) P) here h)
-
--- where the heads of decisions and of states come from
-from_map : {A B : Type 0} (f : A → B) (xs : List A) (k : ℕ) (y : B) → slice_get (map f xs) k ≡ Some y → (x : A) × (slice_get xs k ≡ Some x) × (f x ≡ y)
-from_map f [] k y h = absurd cc
-from_map f (x ∷ xs) zero y h = (x, refl, cc)
-from_map f (x ∷ xs) (suc k) y h = from_map f xs k y h
-
-in_range : (a n k j : ℕ) → slice_get (range_with_len a n) k ≡ Some j → j < a + n
-in_range a zero k j h = absurd cc
-in_range a (suc n) zero j h = let e : a ≡ j = cc in omega arith
-in_range a (suc n) (suc k) j h = let e = in_range (a + 1) n k j h in omega arith
 
 pub group_child : (b : PartBox) (k : ℕ) (g : Group) (i : ℕ) (box : PartBox) → HasHead b (decision_heads k g) i box → (j : ℕ) × (j < length g.decisions) × (box.part ≡ with_pick b.part k j)
 group_child b k g i box has =

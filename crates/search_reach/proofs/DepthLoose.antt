@@ -6,16 +6,19 @@ use Rattle.std.proofs.lemmas.List.Folds.{list_all-append}
 use Rattle.std.specs.Prelude.{slice_get, is_none, is_some}
 use Rattle.std.specs.List.{list_all}
 use Rattle.std.specs.Option.{option_or}
-use Rattle.gas_model.specs.declared.rows.Allow.{Allow}
+use Rattle.base_types.specs.declared.states.Allow.{Allow}
 use Rattle.gas_model.specs.declared.rows.ArcRow.{ArcRow}
-use Rattle.gas_model.specs.declared.rows.ArcState.{ArcState}
+use Rattle.base_types.specs.declared.states.ArcState.{ArcState}
 use Rattle.gas_model.specs.declared.rows.Decision.{Decision}
 use Rattle.gas_model.specs.declared.rows.Group.{Group}
 use Rattle.gas_model.specs.declared.rows.PartState.{PartState}
 use Rattle.gas_model.specs.Rows.{Network}
 use Rattle.gas_model.specs.Choices.{states_of, only, allows, words_in, words_if, words_for, words_allow, picks_allow, allowed_states, fixed_state, named_state}
 use Rattle.search_reach.specs.Depth.{fixes, is_in_group, is_fixed_by, is_loose, loose_from}
-use Rattle.search_reach.proofs.DepthLists.{Member, fewer, filter_short, there}
+use Rattle.search_order.proofs.Members.{Member}
+use Rattle.tree_pool.proofs.Lists.{there}
+use Rattle.search_reach.proofs.Filters.{fewer}
+use Rattle.nom_search.proofs.Runs.{filter_short}
 
 -- a decision is picked for the group k
 pub record IsPicked (groups : List Group) (picks : List (Option ℕ)) (k : ℕ) : Type 0 where

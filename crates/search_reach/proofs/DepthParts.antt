@@ -7,7 +7,7 @@ use Rattle.std.proofs.Common.{length-set}
 use Rattle.std.specs.Prelude.{slice_get, is_none, option_and_then}
 use Rattle.std.specs.Option.{option_or}
 use Rattle.gas_model.specs.declared.rows.ArcRow.{ArcRow}
-use Rattle.gas_model.specs.declared.rows.ArcState.{ArcState}
+use Rattle.base_types.specs.declared.states.ArcState.{ArcState}
 use Rattle.gas_model.specs.declared.rows.Group.{Group}
 use Rattle.gas_model.specs.declared.rows.PartState.{PartState}
 use Rattle.gas_model.specs.Rows.{Network}
@@ -15,9 +15,10 @@ use Rattle.gas_model.specs.Choices.{states_of, only, named_state, fixed_state, f
 use Rattle.gas_model.specs.Rulings.{pick_in}
 use Rattle.tree_rules.specs.Branches.{with_pick, with_state}
 use Rattle.search_reach.specs.Depth.{is_loose, loose_arcs}
-use Rattle.search_reach.proofs.DepthLists.{Member, Apart, pigeon}
-use Rattle.search_reach.proofs.DepthForks.{IsFirst, unpicked, unfixed, AllPicked, AllFixed}
+use Rattle.box_split.proofs.ForkCases.{unpicked, unfixed, AllPicked, AllFixed}
 use Rattle.search_reach.proofs.DepthLoose.{IsPicked, loose, listed}
+use Rattle.search_order.proofs.Members.{Member, Apart, pigeon}
+use Rattle.box_split.proofs.Firsts.{IsFirst}
 
 -- states are named for distinct loose arcs, of which there are as many as the depth wants
 pub record NamesLoose (p : Network) (depth : ℕ) (part : PartState) : Type 0 where

@@ -22,11 +22,11 @@ use Rattle.box_pool.specs.Grid.{pool_scale}
 use Rattle.box_pool.specs.Forks.{by_of, HasFork}
 use Rattle.nom_search.specs.Sought.{sought, IsSplitBy}
 use Rattle.search_reach.specs.Depth.{children_at}
-use Rattle.search_reach.proofs.DepthLists.{same_item, there}
-use Rattle.search_reach.proofs.DepthForks.{ByGroup as GroupCase, ByArc as ArcCase, ByHalf as HalfCase, fork_cases}
+use Rattle.box_split.proofs.ForkCases.{ByGroup as GroupCase, ByArc as ArcCase, ByHalf as HalfCase, fork_cases}
 use Rattle.search_reach.proofs.DepthKids.{HasHead, steps_keep_part, heads_give, halves_keep, by_var, by_group, by_arc, group_child, arc_child}
 use Rattle.search_reach.proofs.DepthParts.{IsAt, root_at, group_is, group_next, half_next, arc_next}
 use Rattle.search_reach.proofs.DepthWidth.{few_heads}
+use Rattle.tree_pool.proofs.Lists.{there, same_row}
 
 abbrev pub Cases : Network → PartState → Fork → Type 0
 Cases p part fork = GroupCase p part fork ⊎ (ArcCase p part fork ⊎ HalfCase p part fork)
@@ -105,7 +105,7 @@ module _ (p : Network) (tol : ℤ) (budget : ℕ) (rows : List Row) (boxes : Lis
         | inl less ↦ (stop.before m q here less).1
         | inr b ↦ elim b [
           | inl e ↦
-              let same = same_item rows m n q stop.row here stop.here (paths.distinct m n q stop.row here stop.here e) in
+              let same = same_row rows m n q stop.row here stop.here (paths.distinct m n q stop.row here stop.here e) in
               absurd (splits_not_quit f first count (sym stop.quit ∙ ap (λ (x : Row). x.standing) (sym same) ∙ split))
           | inr more ↦ absurd (splits_not_waiting f first count (sym (stop.behind m q here more).0 ∙ split))
         ]
@@ -154,13 +154,13 @@ module _ (p : Network) (tol : ℤ) (budget : ℕ) (rows : List Row) (boxes : Lis
   at_path [] (suc m) q b here is there_box =
       let h = paths.above m q here in
       let (r, here2, path2) = (paths.below h.parent h.row h.branch h.first h.count h.here h.split).1 h.nth h.within in
-      let same : r ≡ q = same_item rows (h.first + h.nth) (suc m) r q here2 here (sym h.number) in
+      let same : r ≡ q = same_row rows (h.first + h.nth) (suc m) r q here2 here (sym h.number) in
       absurd (let whole : h.nth ∷ h.row.path ≡ [] = sym path2 ∙ ap (λ (x : Row). x.path) same ∙ is in cc whole)
   at_path (k ∷ path) zero q b here is there_box = absurd (let e = (paths.top q here).0 in cc)
   at_path (k ∷ path) (suc m) q b here is there_box =
       let h = paths.above m q here in
       let (r, here2, path2) = (paths.below h.parent h.row h.branch h.first h.count h.here h.split).1 h.nth h.within in
-      let same : r ≡ q = same_item rows (h.first + h.nth) (suc m) r q here2 here (sym h.number) in
+      let same : r ≡ q = same_row rows (h.first + h.nth) (suc m) r q here2 here (sym h.number) in
       let whole : h.nth ∷ h.row.path ≡ k ∷ path = sym path2 ∙ ap (λ (x : Row). x.path) same ∙ is in
       let above : h.row.path ≡ path = cc whole in
       let s = is_split h.parent h.row h.branch h.first h.count h.here h.split in

@@ -18,22 +18,14 @@ use Rattle.tree_rules.specs.Branches.{decision_heads}
 use Rattle.box_split.specs.declared.forks.Fork.{Fork}
 use Rattle.box_pool.specs.Forks.{heads_of, state_heads}
 use Rattle.search_reach.specs.Depth.{children_at, children_behind, loose_arcs}
-use Rattle.search_reach.proofs.DepthLists.{filter_short, there}
-use Rattle.search_reach.proofs.DepthForks.{ByGroup, ByArc, ByHalf}
+use Rattle.box_split.proofs.ForkCases.{ByGroup, ByArc, ByHalf}
 use Rattle.search_reach.proofs.DepthParts.{IsAt, group_is, behind_groups, still_loose}
+use Rattle.tree_pool.proofs.Lists.{there}
+use Rattle.nom_search.proofs.Runs.{few_states, filter_short}
 
 length-range : (a n : ℕ) → length (range_with_len a n) ≡ n
 length-range a zero = refl
 length-range a (suc n) = ap suc (length-range (a + 1) n)
-
-few_states : (kind : ArcKind) → length (states_of kind) ≤ 3
-few_states (Pipe law) = omega arith
-few_states Short = omega arith
-few_states (Resist law) = omega arith
-few_states (Loss low high) = omega arith
-few_states Valve = omega arith
-few_states (Control in_min out_max red_min red_max) = omega arith
-few_states (Station in_min out_max ratio_num ratio_den rise_max) = omega arith
 
 at_no_group : (p : Network) (d : ℕ) → length p.groups ≤ d → children_at p d ≡ children_behind p d
 at_no_group p d le = ap (λ (o : Option Group). option_map_or (λ g. length g.decisions) o (children_behind p d)) (slice_get_past p.groups d le)

@@ -1,8 +1,7 @@
 mod BudgetCounts
 mod BudgetWays
-mod DepthForks
 mod DepthKids
-mod DepthLists
+mod Filters
 mod DepthLoose
 mod DepthParts
 mod DepthTree
@@ -16,7 +15,6 @@ pub mod StepPairs
 pub mod StepRows
 pub mod StepWidths
 pub mod WidthEnds
-pub mod WidthForks
 pub mod WidthHalves
 pub mod WidthKids
 pub mod WidthLaws

@@ -7,8 +7,8 @@ use borrow.Author.Tests.{ltb-true}
 use Rattle.integer_laws.proofs.Ring.{linear}
 use Rattle.gas_model.specs.declared.rows.ArcRow.{ArcRow}
 use Rattle.gas_model.specs.declared.rows.Ends.{Ends}
-use Rattle.gas_model.specs.declared.rows.Var.{Var}
-use Rattle.gas_model.specs.declared.rows.Var.TheVariants.{Flow, Square}
+use Rattle.base_types.specs.declared.variables.Var.{Var}
+use Rattle.base_types.specs.declared.variables.Var.TheVariants.{Flow, Square}
 use Rattle.gas_model.specs.Rows.{Network}
 use Rattle.gas_model.specs.Rulings.{is_free, pick_in}
 use Rattle.gas_model.specs.Choices.{allowed_states}
@@ -25,6 +25,8 @@ use Rattle.tree_rules.proofs.TreeSound.{if_some}
 use Rattle.tight_steps.proofs.OtherArcs.{same_ends}
 use Rattle.tree_pool.specs.Rules.{AreExpected}
 use Rattle.stable_sweep.specs.Paths.{IsNoWider}
+use Rattle.stable_sweep.proofs.StepCounts.{tightened_here}
+use Rattle.search_reach.proofs.WidthEnds.{either_var}
 
 -- the second box is one of the problem, and no wider than the first
 pub record IsInside (p : Network) (c d : PartBox) : Type 0 where
@@ -32,16 +34,6 @@ pub record IsInside (p : Network) (c d : PartBox) : Type 0 where
   pub narrow : IsNoWider c.bounds d.bounds
 
 -- ---- the half of a variable
-either_var : (v w : Var) → (v ≡ w) ⊎ (v ≡ w → ⊥)
-either_var (Flow a) (Flow i) = elim (eqb_tells a i) [ inl e ↦ inl (ap Flow e.1) | inr n ↦ inr (λ h. n.1 cc) ]
-either_var (Flow a) (Square n) = inr (λ h. cc)
-either_var (Square n) (Flow a) = inr (λ h. cc)
-either_var (Square n) (Square m) = elim (eqb_tells n m) [ inl e ↦ inl (ap Square e.1) | inr n ↦ inr (λ h. n.1 cc) ]
-
-ends_here : (b : Bounds) (v : Var) (low : Bool) (C : ℤ) → IsTrue (is_in_box b v) → ends_of (tightened b v low C) v ≡ with_end low C (ends_of b v)
-ends_here b (Flow a) low C h = get_or-set_same b.flows a (with_end low C (ends_of b (Flow a))) no_ends (ltb-true a _ h)
-ends_here b (Square n) low C h = get_or-set_same b.squares n (with_end low C (ends_of b (Square n))) no_ends (ltb-true n _ h)
-
 end_narrow : (low : Bool) (C : ℤ) (e : Ends) → IsTrue (lies_inside e C) → width_of (with_end low C e) ≤ℤ width_of e
 end_narrow true C e h = let t = and_parts (int_lt e.lo C) (int_lt C e.hi) h in omega (arith, linear, t.0)
 end_narrow false C e h = let t = and_parts (int_lt e.lo C) (int_lt C e.hi) h in omega (arith, linear, t.1)
@@ -49,7 +41,7 @@ end_narrow false C e h = let t = and_parts (int_lt e.lo C) (int_lt C e.hi) h in 
 half_narrow : (b : Bounds) (v w : Var) (low : Bool) (C : ℤ) → IsTrue (is_in_box b v) → IsTrue (lies_inside (ends_of b v) C) → width_of (ends_of (tightened b v low C) w) ≤ℤ width_of (ends_of b w)
 half_narrow b v w low C var inside =
     elim (either_var w v) [
-      | inl e ↦ rw (e, ends_here b v low C var) (end_narrow low C (ends_of b v) inside)
+      | inl e ↦ rw (e, tightened_here b v low C var) (end_narrow low C (ends_of b v) inside)
       | inr n ↦ rw (same_ends b w v low C n) (omega (arith, linear))
     ]
 

@@ -21,12 +21,10 @@ use Rattle.nom_search.specs.Halted.{HaltsAt}
 use Rattle.search_reach.specs.StepPaths.{StepsAreFewIn, FewWhereHalted, FewWhereRefuted, FewWhereWorked}
 use Rattle.search_reach.proofs.StepWidths.{opening_narrow}
 use Rattle.search_reach.proofs.StepRows.{HaveTurns, steps_are_few_in}
-
-opening_fits : (p : Network) → BoxFits p (opening pool_scale p)
-opening_fits p = record { flows = length-map p.arcs (flow_ends pool_scale); squares = length-map p.nodes (square_ends pool_scale) }
+use Rattle.gas_model.proofs.BoxFacts.{opening_fits}
 
 from_root : (p : Network) (rows : List Row) (boxes : List PartBox) → IsWithin p → IsMap rows → IsOf (rules_of p) (root_box pool_scale p) rows boxes → HaveTurns p rows boxes → StepsAreFewIn rows
-from_root p rows boxes within map pool turns = steps_are_few_in p (root_box pool_scale p) rows boxes map pool turns (opening_fits p) (opening_narrow p within)
+from_root p rows boxes within map pool turns = steps_are_few_in p (root_box pool_scale p) rows boxes map pool turns (opening_fits pool_scale p) (opening_narrow p within)
 
 left_turns : (p : Network) (tol : ℤ) (boxes : List PartBox) (turns : List ℕ) (n : ℕ) (steps : List Step) (turn : ℕ) (box b : PartBox) → IsLeft (sought p tol) boxes turns n steps turn box → slice_get boxes n ≡ Some b → AreTurns p b steps
 left_turns p tol boxes turns n steps turn box b left there =

@@ -3,7 +3,7 @@ use Rattle.std.proofs.Common.{◌≡◌, ℕ, suc, ◌+◌, ap, ◌∙◌, arith
 use Rattle.std.specs.Prelude.{filter}
 use Rattle.std.proofs.lemmas.List.Elements.{filter-append}
 use Rattle.integer_laws.proofs.Ring.{linear}
-use Rattle.gas_model.specs.declared.rows.Var.{Var}
+use Rattle.base_types.specs.declared.variables.Var.{Var}
 use Rattle.gas_model.specs.Rows.{Network}
 use Rattle.gas_model.specs.Boxes.{BoxFits}
 use Rattle.gas_model.proofs.BoxFacts.{tightened_fits}
@@ -26,7 +26,7 @@ narrower p b c (x ∷ rest) n h = (h.0, (λ v. let m = n v in let k = h.1 v in o
 pub joined : (p : Network) (b c : PartBox) (ss : List Step) (rest : List (PartBox × Step)) → BoxFits p b.bounds → AreTurns p b ss → IsNoWider (after b ss).bounds c.bounds → ArePath p c rest → ArePath p b (path_from b ss rest)
 joined p b c [] rest fits turns n h = narrower p b c rest n h
 joined p b c (s ∷ ss) rest fits turns n h =
-    (fits, (λ v. omega (arith, linear)), turns.0, joined p (stepped b s) c ss rest (tightened_fits p b.bounds s.var s.low s.value fits) turns.1 n h)
+    (fits, (λ v. omega (arith, linear)), record { filled = turns.0.filled; move = turns.0.move }, joined p (stepped b s) c ss rest (tightened_fits p b.bounds s.var s.low s.value fits) turns.1 n h)
 
 pub after_fits : (p : Network) (b : PartBox) (ss : List Step) → BoxFits p b.bounds → BoxFits p (after b ss).bounds
 after_fits p b [] fits = fits

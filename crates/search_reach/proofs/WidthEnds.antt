@@ -9,8 +9,8 @@ use borrow.Author.Tests.{ltb-true}
 use Rattle.integer_laws.proofs.Ring.{linear, mul_add, mul_one}
 use Rattle.gas_units.proofs.Quotients.{euclid_divides}
 use Rattle.gas_model.specs.declared.rows.Ends.{Ends}
-use Rattle.gas_model.specs.declared.rows.Var.{Var}
-use Rattle.gas_model.specs.declared.rows.Var.TheVariants.{Flow, Square}
+use Rattle.base_types.specs.declared.variables.Var.{Var}
+use Rattle.base_types.specs.declared.variables.Var.TheVariants.{Flow, Square}
 use Rattle.gas_model.specs.Rows.{Network}
 use Rattle.gas_model.specs.Boxes.{Bounds, BoxFits, no_ends, ends_of, is_in_box, width_of, with_end, tightened}
 use Rattle.gas_model.proofs.BoxFacts.{tightened_fits, in_box}
@@ -21,7 +21,11 @@ use Rattle.tight_steps.specs.Best.{shrinks}
 use Rattle.tight_steps.proofs.ArcMoves.{step_parts}
 use Rattle.tight_steps.proofs.OtherArcs.{same_ends}
 use Rattle.stable_sweep.specs.Runs.{after, AreTurns, IsTurn}
-use Rattle.box_split.specs.Forks.{is_wide, middle}
+use Rattle.box_ends.specs.Middle.{middle}
+use Rattle.box_split.specs.Forks.{is_wide}
+use Rattle.stable_sweep.proofs.StepCounts.{tightened_here}
+use Rattle.box_split.proofs.Others.{var_of}
+use Rattle.search_reach.proofs.StepPairs.{after_fits}
 
 -- ---- one variable or another
 pub either_var : (v w : Var) → (v ≡ w) ⊎ (v ≡ w → ⊥)
@@ -30,27 +34,17 @@ either_var (Flow a) (Square n) = inr (λ h. cc)
 either_var (Square n) (Flow a) = inr (λ h. cc)
 either_var (Square n) (Square m) = elim (eqb_tells n m) [ inl e ↦ inl (ap Square e.1) | inr n ↦ inr (λ h. n.1 cc) ]
 
-pub var_is : (v w : Var) → same_var v w ≡ true → v ≡ w
-var_is (Flow i) (Flow j) h = ap Flow (eqb-true i j h)
-var_is (Flow i) (Square j) h = absurd cc
-var_is (Square i) (Flow j) h = absurd cc
-var_is (Square i) (Square j) h = ap Square (eqb-true i j h)
-
 pub var_self : (v : Var) → same_var v v ≡ true
 var_self (Flow a) = eq-eqb a a refl
 var_self (Square n) = eq-eqb n n refl
 
 -- ---- one end
-pub ends_here : (b : Bounds) (v : Var) (low : Bool) (C : ℤ) → IsTrue (is_in_box b v) → ends_of (tightened b v low C) v ≡ with_end low C (ends_of b v)
-ends_here b (Flow a) low C h = get_or-set_same b.flows a (with_end low C (ends_of b (Flow a))) no_ends (ltb-true a _ h)
-ends_here b (Square n) low C h = get_or-set_same b.squares n (with_end low C (ends_of b (Square n))) no_ends (ltb-true n _ h)
-
 -- where the end of a variable in the box moves inward, no variable grows
 pub end_narrow : (b : Bounds) (v w : Var) (low : Bool) (C : ℤ) → IsTrue (is_in_box b v) → width_of (with_end low C (ends_of b v)) ≤ℤ width_of (ends_of b v)
     → width_of (ends_of (tightened b v low C) w) ≤ℤ width_of (ends_of b w)
 end_narrow b v w low C var less =
     elim (either_var w v) [
-      | inl e ↦ rw (e, ends_here b v low C var) less
+      | inl e ↦ rw (e, tightened_here b v low C var) less
       | inr n ↦ rw (same_ends b w v low C n) (omega (arith, linear))
     ]
 
@@ -74,10 +68,6 @@ steps_narrow p b (s ∷ ss) v fits h =
     let one = step_narrow p b s v fits h.0 in
     let rest = steps_narrow p (stepped b s) ss v (tightened_fits p b.bounds s.var s.low s.value fits) h.1 in
     omega (arith, linear, one, rest)
-
-pub steps_fit : (p : Network) (b : PartBox) (ss : List Step) → BoxFits p b.bounds → BoxFits p (after b ss).bounds
-steps_fit p b [] fits = fits
-steps_fit p b (s ∷ ss) fits = steps_fit p (stepped b s) ss (tightened_fits p b.bounds s.var s.low s.value fits)
 
 pub steps_same_part : (b : PartBox) (ss : List Step) → (after b ss).part ≡ b.part
 steps_same_part b [] = refl

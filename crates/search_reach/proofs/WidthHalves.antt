@@ -5,7 +5,7 @@ use Rattle.std.proofs.Math.Nat.{pow-suc}
 use Rattle.std.proofs.lemmas.Int.{ints}
 use Rattle.std.proofs.lemmas.Bool.{cases_lt}
 use Rattle.integer_laws.proofs.Ring.{linear, mul_le_left, mul_assoc, mul_one, one_mul}
-use Rattle.gas_model.specs.declared.rows.Var.{Var}
+use Rattle.base_types.specs.declared.variables.Var.{Var}
 use Rattle.gas_model.specs.Rows.{Network}
 use Rattle.gas_model.specs.Boxes.{BoxFits, ends_of, width_of, tightened}
 use Rattle.tree_cert.specs.declared.line.Head.{Head}
@@ -14,10 +14,13 @@ use Rattle.tree_rules.specs.Rules.{PartBox}
 use Rattle.tree_rules.specs.Branches.{same_var, headed}
 use Rattle.tight_steps.proofs.OtherArcs.{same_ends}
 use Rattle.stable_sweep.specs.Runs.{after}
-use Rattle.box_split.specs.Forks.{is_wide, middle}
+use Rattle.box_ends.specs.Middle.{middle}
+use Rattle.box_split.specs.Forks.{is_wide}
 use Rattle.search_reach.specs.Widths.{halves, width_in}
-use Rattle.search_reach.proofs.WidthEnds.{var_is, var_self, ends_here, steps_narrow, half_width, wide_in_box}
+use Rattle.search_reach.proofs.WidthEnds.{var_self, steps_narrow, half_width, wide_in_box}
 use Rattle.search_reach.proofs.WidthWays.{IsBelow, Led, led_fits, child_cases, quiet_of, quiet_bounds}
+use Rattle.stable_sweep.proofs.StepCounts.{tightened_here}
+use Rattle.box_split.proofs.Others.{var_of}
 
 -- ---- counts
 abbrev pub count : (Head → Bool) → List Head → ℕ
@@ -60,11 +63,11 @@ half_cases c v w low wide = by (same_var w v) refl
         → Halved v (Half w low (middle (ends_of c.bounds w))) (width_in c v) (width_in (headed c (Half w low (middle (ends_of c.bounds w)))) v)
         ⊎ Kept v (Half w low (middle (ends_of c.bounds w))) (width_in c v) (width_in (headed c (Half w low (middle (ends_of c.bounds w)))) v)
     by true e =
-        let here = ends_here c.bounds w low (middle (ends_of c.bounds w)) (wide_in_box c.bounds w wide) in
+        let here = tightened_here c.bounds w low (middle (ends_of c.bounds w)) (wide_in_box c.bounds w wide) in
         inl (record {
           is = e;
-          wide = subst (λ (x : Var). pos 2 ≤ℤ width_in c x) (var_is w v e) (wide_is (width_in c w) wide);
-          less = subst (λ (x : Var). ((width_of (ends_of (tightened c.bounds w low (middle (ends_of c.bounds w))) x) -ℤ pos 1) +ℤ (width_of (ends_of (tightened c.bounds w low (middle (ends_of c.bounds w))) x) -ℤ pos 1)) ≤ℤ (width_in c x -ℤ pos 1)) (var_is w v e)
+          wide = subst (λ (x : Var). pos 2 ≤ℤ width_in c x) (var_of w v e) (wide_is (width_in c w) wide);
+          less = subst (λ (x : Var). ((width_of (ends_of (tightened c.bounds w low (middle (ends_of c.bounds w))) x) -ℤ pos 1) +ℤ (width_of (ends_of (tightened c.bounds w low (middle (ends_of c.bounds w))) x) -ℤ pos 1)) ≤ℤ (width_in c x -ℤ pos 1)) (var_of w v e)
               (rw here (half_width low (ends_of c.bounds w)));
         })
     by false e =

@@ -2,7 +2,7 @@
 use Rattle.std.proofs.Common.{◌≡◌, ℕ, zero, suc, refl, sym, ap, subst, ◌∙◌, ℤ, Bool, true, false, not, ◌&&◌, List, [], ◌∷◌, Some, IsTrue}
 use Rattle.std.specs.Prelude.{slice_get}
 use Rattle.std.proofs.lemmas.Bool.{and_parts}
-use Rattle.gas_model.specs.declared.rows.Var.{Var}
+use Rattle.base_types.specs.declared.variables.Var.{Var}
 use Rattle.gas_model.specs.Rows.{Network}
 use Rattle.gas_model.specs.Boxes.{ends_of, is_var}
 use Rattle.tree_cert.specs.declared.line.Head.{Head}
@@ -15,7 +15,7 @@ use Rattle.tree_rules.proofs.SameHeads.{heads_are_told_apart}
 use Rattle.tree_rules.proofs.StepSound.{map_is}
 use Rattle.tree_rules.proofs.TreeSound.{if_some}
 use Rattle.tree_pool.specs.Rules.{AreExpected}
-use Rattle.search_reach.proofs.WidthEnds.{var_is}
+use Rattle.box_split.proofs.Others.{var_of}
 
 -- what is waited for is of this box
 abbrev IsOfBox : PartBox → Wait → Type 0
@@ -28,7 +28,7 @@ IsNext c h next = (next.0 ≡ headed c h) × IsOfBox c next.1
 
 lower_is : (v w : Var) (low : Bool) (C : ℤ) → IsTrue (same_var w v) → IsTrue (not low) → lower_half v C ≡ Half w low C
 lower_is v w true C same not_low = absurd cc
-lower_is v w false C same not_low = let e = var_is w v same in cc
+lower_is v w false C same not_low = let e = var_of w v same in cc
 
 head_gives : (c : PartBox) (w : Wait) (h : Head) (next : PartBox × Wait) → after_head w h ≡ Some next → IsOfBox c w → IsNext c h next
 head_gives c (Heads b []) h next e is = absurd cc

@@ -6,7 +6,7 @@ use Rattle.std.proofs.Math.Nat.{pow-le-pow_right}
 use Rattle.std.proofs.lemmas.Nat.{pow_pos}
 use Rattle.integer_laws.proofs.Ring.{linear, mul_le_left, mul_le_right, sub_mul, one_mul, mul_zero, le_or_lt}
 use Rattle.gas_model.specs.declared.rows.PartState.{PartState}
-use Rattle.gas_model.specs.declared.rows.Var.{Var}
+use Rattle.base_types.specs.declared.variables.Var.{Var}
 use Rattle.std.specs.Prelude.{slice_get}
 use Rattle.std.proofs.lemmas.Option.{slice_get_within}
 use Rattle.std.proofs.lemmas.List.{length-map}
@@ -29,14 +29,13 @@ use Rattle.nom_search.specs.Halted.{Halted}
 use Rattle.nom_search.specs.Sought.{sought}
 use Rattle.search_reach.specs.Widths.{is_half, halves, heads_to, width_in, HalvingsAreFewIn, FewHalvingsWhereHalted, FewHalvingsWhereRefuted, IsNarrowed, NamedIsNarrow, NamedBoxesAreNarrow}
 use Rattle.search_reach.proofs.WidthRows.{SplitsAreKnown, halted_known, left_is, turn_there, way_to}
-use Rattle.search_reach.proofs.WidthEnds.{var_is, steps_narrow, steps_same_part}
+use Rattle.search_reach.proofs.WidthEnds.{steps_narrow, steps_same_part}
 use Rattle.search_reach.proofs.WidthWays.{Led, led_fits}
 use Rattle.search_reach.proofs.WidthHalves.{count, Shrunk, shrunk, narrower, halvings_few}
 use Rattle.search_reach.proofs.WidthRounds.{rounds_give}
 use Rattle.search_reach.proofs.WidthTurns.{in_turn}
-
-pub opening_fits : (p : Network) → BoxFits p (opening pool_scale p)
-opening_fits p = record { flows = length-map p.arcs (flow_ends pool_scale); squares = length-map p.nodes (square_ends pool_scale) }
+use Rattle.gas_model.proofs.BoxFacts.{opening_fits}
+use Rattle.box_split.proofs.Others.{var_of, place_in}
 
 few_halvings_in : (p : Network) (tol : ℤ) (rows : List Row) (boxes : List PartBox) (turns : List ℕ) → IsMap rows → IsOf (rules_of p) (root_box pool_scale p) rows boxes → SplitsAreKnown p tol rows boxes turns → HalvingsAreFewIn p rows
 few_halvings_in p tol rows boxes turns map pool known n r here v m at_most =
@@ -44,7 +43,7 @@ few_halvings_in p tol rows boxes turns map pool known n r here v m at_most =
     let b = get_some boxes n (let a = slice_get_within rows n r here in let e = pool.count in omega arith) in
     let t = turn_there (slice_get turns n) in
     let led = way_to p tol root rows boxes turns map pool known r.path n r b.0 t.0 here b.1 t.1 refl in
-    halvings_few p root (heads_to rows r.path) b.0 t.0 v m (opening_fits p) led at_most
+    halvings_few p root (heads_to rows r.path) b.0 t.0 v m (opening_fits pool_scale p) led at_most
 
 pub few_halvings_where_halted : FewHalvingsWhereHalted
 few_halvings_where_halted p tol budget why rows text line halted =
@@ -55,16 +54,6 @@ pub few_halvings_where_refuted : FewHalvingsWhereRefuted
 few_halvings_where_refuted p tol budget rows text refuted =
     let worked = refuted.worked in
     few_halvings_in p tol rows refuted.boxes refuted.turns worked.map worked.pool (λ n r f first count here split. worked.known n r here)
-
--- a variable of a list stands at some place of it
-place_in : (v : Var) (xs : List Var) → list_any (same_var v) xs ≡ true → (i : ℕ) × (i < length xs) × (get_or xs i no_var ≡ v)
-place_in v [] e = absurd cc
-place_in v (x ∷ xs) e = by (same_var v x) refl e (place_in v xs)
-  where
-    by : (c : Bool) → same_var v x ≡ c → (c || list_any (same_var v) xs) ≡ true
-        → (list_any (same_var v) xs ≡ true → (i : ℕ) × (i < length xs) × (get_or xs i no_var ≡ v)) → (i : ℕ) × (i < suc (length xs)) × (get_or (x ∷ xs) i no_var ≡ v)
-    by true t h rest = (0, omega arith, sym (var_is v x t))
-    by false t h rest = let at = rest h in (suc at.0, (let l = at.1 in omega arith), at.2)
 
 -- ---- whole numbers
 -- a number that isn't positive, times a power of two
@@ -107,8 +96,8 @@ narrow_left p tol rows boxes turns map pool known n r turn box here left shape i
     let led = way_to p tol root rows boxes turns map pool known r.path n r left.start turn here left.here (λ t e. let g = left.turned in cc) refl in
     let same : box ≡ after left.start r.steps = left_is p tol boxes turns n r.steps turn box left in
     let part : box.part ≡ left.start.part = ap (λ (x : PartBox). x.part) same ∙ steps_same_part left.start r.steps in
-    let steps = steps_narrow p left.start r.steps v (led_fits p root (heads_to rows r.path) left.start turn (opening_fits p) led) left.moves in
-    narrow_at p root shape (heads_to rows r.path) left.start turn (width_in box v) v times (opening_fits p) (subst (λ (x : PartState). IsShapeOf p x shape) part is) among led
+    let steps = steps_narrow p left.start r.steps v (led_fits p root (heads_to rows r.path) left.start turn (opening_fits pool_scale p) led) left.moves in
+    narrow_at p root shape (heads_to rows r.path) left.start turn (width_in box v) v times (opening_fits pool_scale p) (subst (λ (x : PartState). IsShapeOf p x shape) part is) among led
     (rw same steps) enough
 
 named_narrow : (p : Network) (tol : ℤ) (budget : ℕ) (why : Why) (rows : List Row) (text : List ℕ) (line : ℕ) → (h : Halted p tol (root_box pool_scale p) budget why rows text line)

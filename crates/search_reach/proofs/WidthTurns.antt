@@ -3,7 +3,7 @@
 use Rattle.std.proofs.Common.{◌≡◌, ℕ, zero, suc, ◌+◌, ◌*◌, ◌<◌, ◌≤◌, refl, sym, ap, subst, ◌∙◌, ◌⊎◌, inl, inr, arith, ℤ, pos, ◌≤ℤ◌, Bool, true, false, List, [], ◌∷◌, length, get_or, Option, Some, None}
 use Rattle.std.proofs.lemmas.Bool.{cases_lt}
 use Rattle.integer_laws.proofs.Ring.{linear, le_test}
-use Rattle.gas_model.specs.declared.rows.Var.{Var}
+use Rattle.base_types.specs.declared.variables.Var.{Var}
 use Rattle.gas_model.specs.declared.rows.PartState.{PartState}
 use Rattle.gas_model.specs.Rows.{Network}
 use Rattle.gas_model.specs.Boxes.{Bounds, BoxFits, ends_of, width_of}
@@ -16,18 +16,20 @@ use Rattle.tree_rules.specs.Branches.{headed}
 use Rattle.stable_sweep.specs.Runs.{after}
 use Rattle.box_split.specs.declared.forks.Fork.{Fork}
 use Rattle.box_split.specs.declared.forks.Fork.TheVariants.{Halve}
-use Rattle.box_split.specs.Forks.{first, if_none, halved, is_wide, middle, at_turn, round, start, no_var}
+use Rattle.box_ends.specs.Middle.{middle}
+use Rattle.box_split.specs.Forks.{first, if_none, halved, is_wide, at_turn, round, start, no_var}
+use Rattle.box_ends.specs.Middle.{middle}
 use Rattle.box_split.specs.Forks.{after as after_place}
-use Rattle.box_split.proofs.Firsts.{all_false}
+use Rattle.box_split.proofs.Firsts.{all_false, found}
 use Rattle.search_reach.specs.Widths.{is_half, halves, width_in}
 use Rattle.search_reach.proofs.WidthEnds.{var_self, steps_narrow, steps_same_part}
-use Rattle.search_reach.proofs.WidthForks.{Done, found, by_var, flows}
+use Rattle.box_split.proofs.Halvings.{Done, by_var, flows}
 use Rattle.search_reach.proofs.WidthWays.{Led, led_fits, child_cases, quiet_is}
 use Rattle.search_reach.proofs.WidthHalves.{count, count_this, count_other, child_narrow}
 use Rattle.search_reach.proofs.WidthRounds.{IsAhead, reached, nearer, IsCounted, none_counted, this_counted, other_counted}
 
 -- ---- the part state
-half_part : (c : PartBox) (v : Var) (low : Bool) (C : ℤ) (h : Head) → h ≡ Half v low C → (headed c h).part ≡ c.part
+pub half_part : (c : PartBox) (v : Var) (low : Bool) (C : ℤ) (h : Head) → h ≡ Half v low C → (headed c h).part ≡ c.part
 half_part c v low C h e = rw e refl
 
 -- while anything was left to pick or to fix, nothing was halved
@@ -45,6 +47,11 @@ fresh p root (h ∷ hs) b turn led =
           let part : b.part ≡ (after l.above l.steps).part = ap (λ (x : PartBox). x.part) l.below.box ∙ half_part (after l.above l.steps) s.var s.low (middle (ends_of (after l.above l.steps).bounds s.var)) h s.head in
           inl (subst (Done p) (sym part) s.done)
     ]
+
+more_times : (n a b : ℕ) → a ≤ b → n * a ≤ n * b
+more_times n zero b le = omega arith
+more_times n (suc a) zero le = absurd (omega arith)
+more_times n (suc a) (suc b) le = let r = more_times n a b (omega arith) in let e : n * suc a ≡ n * a + n = omega arith in let f : n * suc b ≡ n * b + n = omega arith in omega arith
 
 -- ---- which variable is halved
 pub record IsTurnOf (split : List Var) (turn : ℕ) (d : ℕ) (var : Var) (next : ℕ) : Type 0 where
@@ -77,11 +84,6 @@ more_halves v h hs = by (halves v h) refl
     by : (t : Bool) → halves v h ≡ t → count (halves v) hs ≤ count (halves v) (h ∷ hs)
     by true e = let c = count_this (halves v) h hs e in omega arith
     by false e = let c = count_other (halves v) h hs e in omega arith
-
-more_times : (n a b : ℕ) → a ≤ b → n * a ≤ n * b
-more_times n zero b le = omega arith
-more_times n (suc a) zero le = absurd (omega arith)
-more_times n (suc a) (suc b) le = let r = more_times n a b (omega arith) in let e : n * suc a ≡ n * a + n = omega arith in let f : n * suc b ≡ n * b + n = omega arith in omega arith
 
 step_counted : (split : List Var) (j : ℕ) (h : Head) (hs : List Head) (from next : ℕ) (var : Var) (low : Bool) (C : ℤ) → j < length split → h ≡ Half var low C
     → (c : IsCounted (length split) (count is_half hs) (count (halves (get_or split j no_var)) hs) from j) → IsTurnOf split from c.distance var next

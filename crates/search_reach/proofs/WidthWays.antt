@@ -6,7 +6,7 @@ use Rattle.std.specs.List.{range_with_len}
 use Rattle.gas_model.specs.declared.rows.ArcRow.{ArcRow}
 use Rattle.gas_model.specs.declared.rows.Group.{Group}
 use Rattle.gas_model.specs.declared.rows.PartState.{PartState}
-use Rattle.gas_model.specs.declared.rows.Var.{Var}
+use Rattle.base_types.specs.declared.variables.Var.{Var}
 use Rattle.gas_model.specs.Rows.{Network}
 use Rattle.gas_model.specs.Choices.{allowed_states}
 use Rattle.gas_model.specs.Boxes.{BoxFits, ends_of}
@@ -19,11 +19,12 @@ use Rattle.tree_rules.specs.Branches.{headed, decision_heads}
 use Rattle.stable_sweep.specs.Runs.{after, AreTurns}
 use Rattle.box_split.specs.declared.forks.Fork.{Fork}
 use Rattle.box_split.specs.declared.forks.Fork.TheVariants.{Group as ByGroup, Free as ByArc, Halve, Least}
-use Rattle.box_split.specs.Forks.{is_wide, middle}
+use Rattle.box_ends.specs.Middle.{middle}
+use Rattle.box_split.specs.Forks.{is_wide}
 use Rattle.box_pool.specs.Forks.{state_heads, heads_of, next_of, HasFork}
 use Rattle.search_reach.specs.Widths.{is_half, halves}
-use Rattle.search_reach.proofs.WidthEnds.{steps_fit}
-use Rattle.search_reach.proofs.WidthForks.{Done, IsEarlyFork, by_var, halving_is, fork_cases}
+use Rattle.box_split.proofs.Halvings.{Done, IsEarlyFork, by_var, halving_is, fork_cases}
+use Rattle.search_reach.proofs.StepPairs.{after_fits}
 
 -- a child of the box c with this turn: its head, its box and its turn
 pub record IsBelow (p : Network) (c : PartBox) (turn : ℕ) (h : Head) (b : PartBox) (next : ℕ) : Type 0 where
@@ -58,7 +59,7 @@ led_fits p root [] b turn fits led = subst (λ (x : PartBox). BoxFits p x.bounds
 led_fits p root (h ∷ hs) b turn fits led =
     let l = led.0 in
     let up = led_fits p root hs l.above l.from fits led.1 in
-    subst (λ (x : PartBox). BoxFits p x.bounds) (sym l.below.box) (headed_fits p (after l.above l.steps) h (steps_fit p l.above l.steps up))
+    subst (λ (x : PartBox). BoxFits p x.bounds) (sym l.below.box) (headed_fits p (after l.above l.steps) h (after_fits p l.above l.steps up))
 
 -- ---- heads that aren't of halves
 abbrev pub IsQuiet : Head → Type 0

@@ -1,8 +1,8 @@
 -- Which budgets a search of a problem never spends.
 use Rattle.std.specs.Prelude.{ℕ, zero, suc, ◌+◌, ◌^◌, ◌≤◌, nat_le, if◌then◌else◌, ℤ, pos, negsuc, List, ◌++◌, map, length, sum_by}
 use Rattle.std.specs.List.{range_with_len}
-use Rattle.gas_model.specs.declared.rows.Var.{Var}
-use Rattle.gas_model.specs.declared.rows.Var.TheVariants.{Flow, Square}
+use Rattle.base_types.specs.declared.variables.Var.{Var}
+use Rattle.base_types.specs.declared.variables.Var.TheVariants.{Flow, Square}
 use Rattle.gas_model.specs.Rows.{Network}
 use Rattle.tree_pool.specs.Rows.{Row}
 use Rattle.tree_rules.specs.Branches.{root_box}

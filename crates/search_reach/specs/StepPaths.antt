@@ -1,7 +1,7 @@
 -- How often a variable is tightened on the way from the root of a search down to one of its boxes.
 use Rattle.std.specs.Prelude.{◌≡◌, ℕ, ◌≤◌, ℤ, List, [], ◌∷◌, ◌++◌, Some, length, filter, slice_get}
 use Rattle.std.specs.Option.{option_map_or}
-use Rattle.gas_model.specs.declared.rows.Var.{Var}
+use Rattle.base_types.specs.declared.variables.Var.{Var}
 use Rattle.gas_model.specs.Rows.{Network}
 use Rattle.gas_model.specs.Within.{IsWithin}
 use Rattle.tree_cert.specs.declared.line.Step.{Step}

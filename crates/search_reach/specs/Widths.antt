@@ -3,7 +3,7 @@
 use Rattle.std.specs.Prelude.{◌≡◌, ℕ, ◌*◌, ◌^◌, ◌≤◌, ℤ, pos, ◌-ℤ◌, ◌*ℤ◌, ◌≤ℤ◌, Bool, true, false, List, [], ◌∷◌, length, filter, Option, Some, option_and_then, slice_get, IsTrue}
 use Rattle.std.specs.List.{list_any}
 use Rattle.std.specs.Option.{option_map_or}
-use Rattle.gas_model.specs.declared.rows.Var.{Var}
+use Rattle.base_types.specs.declared.variables.Var.{Var}
 use Rattle.gas_model.specs.Rows.{Network}
 use Rattle.gas_model.specs.Boxes.{ends_of, width_of}
 use Rattle.topo.specs.Shapes.{Layout, IsShapeOf}

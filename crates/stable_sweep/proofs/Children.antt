@@ -7,12 +7,12 @@ use Rattle.std.proofs.lemmas.Bool.{cases_Bool, cases_eq, false≢true}
 use Rattle.std.proofs.lemmas.List.Elements.{filter_agree}
 use Rattle.integer_laws.proofs.Ring.{linear}
 use Rattle.gas_model.specs.declared.rows.ArcRow.{ArcRow}
-use Rattle.gas_model.specs.declared.rows.ArcState.{ArcState}
+use Rattle.base_types.specs.declared.states.ArcState.{ArcState}
 use Rattle.gas_model.specs.declared.rows.Ends.{Ends}
 use Rattle.gas_model.specs.declared.rows.PartState.{PartState}
 use Rattle.gas_model.specs.declared.rows.Ruling.{Ruling}
-use Rattle.gas_model.specs.declared.rows.Var.{Var}
-use Rattle.gas_model.specs.declared.rows.Var.TheVariants.{Flow, Square}
+use Rattle.base_types.specs.declared.variables.Var.{Var}
+use Rattle.base_types.specs.declared.variables.Var.TheVariants.{Flow, Square}
 use Rattle.gas_model.specs.Rows.{Network}
 use Rattle.gas_model.specs.Laws.{form_of}
 use Rattle.gas_model.specs.Boxes.{BoxFits, ends_of, is_empty, tightened}
@@ -171,13 +171,10 @@ settled_first p b (Some h) held c w = record {
 }
 
 -- ---- variables and components
-parent_leaves : (p : Network) (b : PartBox) → BoxFits p b.bounds → IsStable p b → LeavesAll b.bounds
-parent_leaves p b f s v i = s.filled v (var_of p b.bounds v f i)
-
 child_leaves : (p : Network) (parent : PartBox) (h : Head) → BoxFits p parent.bounds → IsStable p parent → LeavesBy (headed parent h).bounds (Some h) → LeavesAll (headed parent h).bounds
-child_leaves p parent (Take k j) f s l = parent_leaves p parent f s
-child_leaves p parent (State a state) f s l = parent_leaves p parent f s
-child_leaves p parent (Half v low C) f s l = filled_more parent.bounds v low C (parent_leaves p parent f s) (not_empty (ends_of (tightened parent.bounds v low C) v) l)
+child_leaves p parent (Take k j) f s l = s.filled
+child_leaves p parent (State a state) f s l = s.filled
+child_leaves p parent (Half v low C) f s l = filled_more parent.bounds v low C (s.filled) (not_empty (ends_of (tightened parent.bounds v low C) v) l)
   where
     not_empty : (x : Ends) → is_empty x ≡ false → x.lo ≤ℤ x.hi
     not_empty x n = omega (arith, linear, n)

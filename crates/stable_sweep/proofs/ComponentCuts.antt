@@ -6,29 +6,26 @@ use Rattle.std.proofs.lemmas.Bool.{cases_Bool, false≢true, and_parts, and_from
 use Rattle.std.proofs.lemmas.Option.{slice_get_within, get_or_from_slice_get}
 use borrow.Author.Tests.{lt-ltb}
 use Rattle.gas_model.specs.declared.rows.ArcRow.{ArcRow}
-use Rattle.gas_model.specs.declared.rows.ArcState.{ArcState}
-use Rattle.gas_model.specs.declared.rows.ArcState.TheVariants.{Opened, Shut, Active, Bypass}
 use Rattle.gas_model.specs.declared.rows.NodeRow.{NodeRow}
 use Rattle.gas_model.specs.declared.rows.PartState.{PartState}
 use Rattle.gas_model.specs.Rows.{Network}
 use Rattle.gas_model.specs.Choices.{fixed_state}
+use Rattle.gas_model.specs.Laws.{is_shut}
 use Rattle.gas_model.specs.Within.{IsWithin}
 use Rattle.topo.specs.Graphs.{Graph, graph_of, no_arc, Joined, stay, along, IsRoot, Lists}
 use Rattle.topo.specs.States.{is_there, fixed_at}
-use Rattle.topo.specs.States as states
 use Rattle.topo.specs.Walks.{those}
 use Rattle.topo.specs.Shapes.{Layout, AreRoots, IsShapeOf}
-use Rattle.topo.proofs.Those.{those_list, any_those}
+use Rattle.topo.proofs.PassingNumbers.{those_list, any_those}
 use Rattle.topo.proofs.Labels.{then_along, back}
-use Rattle.topo.proofs.Laid.{one_root}
+use Rattle.topo.proofs.Laid.{one_root, own_root}
 use Rattle.topo.proofs.OnlyOne.{one_list}
 use Rattle.tree_cert.specs.Spelling.{ascends_after}
 use Rattle.tree_rules.specs.NodeRules.{are_cut_nodes, is_cut_node, crosses, all_arcs, sum_nodes, least_supply, greatest_supply}
 use Rattle.tree_rules.specs.NodeRules as node_rule
 use Rattle.tree_rules.specs.Rules.{cuts}
-use Rattle.tree_rules.specs.Rules as rules_of
 use Rattle.stable_sweep.specs.declared.cuts.Supply.{Supply}
-use Rattle.stable_sweep.specs.Supplies.{no_supply, is_unbalanced, IsSupply, AreSupplies, NoneUnbalanced, IsUnbalanced}
+use Rattle.stable_sweep.specs.Supplies.{no_supply, cannot_balance, IsSupply, AreSupplies, NoneUnbalanced, IsUnbalanced}
 use Rattle.stable_sweep.specs.Components.{IsNodeOf, IsComponent, NoneCuts, Cuts}
 
 -- the nodes that have this root
@@ -38,9 +35,6 @@ nodes_with root_of root count = those (λ n. get_or root_of n 0 == root) count
 -- ---- roots
 root_along : (g : Graph) (keep : ℕ → Bool) (m n r : ℕ) → Joined g keep m n → IsRoot g keep n r → IsRoot g keep m r
 root_along g keep m n r j a = record { joined = then_along g keep m n r j a.joined; first = λ x k. a.first x (then_along g keep n m x (back g keep m n j) k) }
-
-own_root : (g : Graph) (keep : ℕ → Bool) (n r : ℕ) → IsRoot g keep n r → IsRoot g keep r r
-own_root g keep n r a = root_along g keep r n r (back g keep n r a.joined) a
 
 same_roots : (g : Graph) (keep : ℕ → Bool) (nodes : ℕ) (root_of : List ℕ) (m n : ℕ) → AreRoots g keep nodes root_of → m < nodes → n < nodes → Joined g keep m n → get_or root_of m 0 ≡ get_or root_of n 0
 same_roots g keep nodes root_of m n a h k j = one_root g keep m (get_or root_of m 0) (get_or root_of n 0) (a.each m h) (root_along g keep m n (get_or root_of n 0) j (a.each n k))
@@ -83,13 +77,6 @@ all_from test i (row ∷ rows) h =
     and_from (test i row) (all_arcs test (i + 1) rows) (subst (λ (n : ℕ). IsTrue (test n row)) (add-zero i) (h 0 row refl))
     (all_from test (i + 1) rows (λ j r e. subst (λ (n : ℕ). IsTrue (test n r)) (let s : i + suc j ≡ i + 1 + j = omega arith in s) (h (suc j) r e)))
 
-shut_alike : (o : Option ArcState) → states.is_shut o ≡ rules_of.is_shut o
-shut_alike None = refl
-shut_alike (Some Opened) = refl
-shut_alike (Some Shut) = refl
-shut_alike (Some Active) = refl
-shut_alike (Some Bypass) = refl
-
 crosses_not : (ns : List ℕ) (row : ArcRow) → is_cut_node ns row.from ≡ is_cut_node ns row.to → crosses ns row ≡ false
 crosses_not ns row e = both (is_cut_node ns row.from) (is_cut_node ns row.to) e
   where
@@ -104,27 +91,27 @@ or_right true b h = refl
 or_right false b h = h
 
 arc_passes : (p : Network) (part : PartState) (root_of : List ℕ) (root : ℕ) → AreRoots (graph_of p.arcs) (is_there p part) (length p.nodes) root_of → IsWithin p → (a : ℕ) (row : ArcRow) → slice_get p.arcs a ≡ Some row
-    → IsTrue (not (crosses (nodes_with root_of root (length p.nodes)) row) || rules_of.is_shut (fixed_state p part a row))
+    → IsTrue (not (crosses (nodes_with root_of root (length p.nodes)) row) || is_shut (fixed_state p part a row))
 arc_passes p part root_of root roots w a row e =
     let g = graph_of p.arcs in
     let q : ℕ → Bool = λ n. get_or root_of n 0 == root in
     let ns = nodes_with root_of root (length p.nodes) in
     let inside : (n : ℕ) → n < length p.nodes → (nat_lt n (length p.nodes) && q n) ≡ q n = λ n h. ap (λ (b : Bool). b && q n) (lt-ltb n (length p.nodes) h) in
-    elim (cases_Bool (rules_of.is_shut (fixed_state p part a row))) [
-      | inl t ↦ or_right (not (crosses ns row)) (rules_of.is_shut (fixed_state p part a row)) t
+    elim (cases_Bool (is_shut (fixed_state p part a row))) [
+      | inl t ↦ or_right (not (crosses ns row)) (is_shut (fixed_state p part a row)) t
       | inr f ↦
           let fixed : fixed_at p part a ≡ fixed_state p part a row = ap (option_and_then (fixed_state p part a)) e in
-          let there : IsTrue (is_there p part a) = ap not (ap states.is_shut fixed ∙ shut_alike (fixed_state p part a row) ∙ f) in
+          let there : IsTrue (is_there p part a) = ap not (ap is_shut fixed ∙ f) in
           let own : get_or p.arcs a no_arc ≡ row = get_or_from_slice_get p.arcs a row no_arc e in
           let joined : Joined g (is_there p part) row.from row.to = along stay a (slice_get_within p.arcs a row e) there (inl (ap (λ (r : ArcRow). r.from) own, ap (λ (r : ArcRow). r.to) own)) in
           let same = same_roots g (is_there p part) (length p.nodes) root_of row.from row.to roots (w.from a row e) (w.to a row e) joined in
           let alike : is_cut_node ns row.from ≡ is_cut_node ns row.to =
           any_those q (length p.nodes) row.from ∙ inside row.from (w.from a row e) ∙ ap (λ (n : ℕ). n == root) same ∙ sym (inside row.to (w.to a row e)) ∙ sym (any_those q (length p.nodes) row.to) in
-          ap (λ (b : Bool). not b || rules_of.is_shut (fixed_state p part a row)) (crosses_not ns row alike)
+          ap (λ (b : Bool). not b || is_shut (fixed_state p part a row)) (crosses_not ns row alike)
     ]
 
 -- ---- the sums at a root are those of its component
-sums_alike : (p : Network) (root_of : List ℕ) (root : ℕ) (s : Supply) → IsSupply p.nodes root_of root (length p.nodes) s → is_unbalanced s ≡ node_rule.is_unbalanced p.nodes (nodes_with root_of root (length p.nodes))
+sums_alike : (p : Network) (root_of : List ℕ) (root : ℕ) (s : Supply) → IsSupply p.nodes root_of root (length p.nodes) s → cannot_balance s ≡ node_rule.is_unbalanced p.nodes (nodes_with root_of root (length p.nodes))
 sums_alike p root_of root s i =
     ap (λ (z : ℤ). int_lt (pos 0) z || int_lt s.greatest (pos 0)) i.least
     ∙ ap (λ (z : ℤ). int_lt (pos 0) (sum_nodes (least_supply p.nodes) (nodes_with root_of root (length p.nodes))) || int_lt z (pos 0)) i.greatest
@@ -135,13 +122,13 @@ some_node nodes [] h = absurd (false≢true h)
 some_node nodes (n ∷ ns) h = omega arith
 
 -- a component whose sums balance is no cut
-no_cut : (p : Network) (part : PartState) (s : Layout) (all : List Supply) (root : ℕ) (ns : List ℕ) → IsShapeOf p part s → AreSupplies p.nodes s.root_of (length p.nodes) all → IsComponent p part root ns → is_unbalanced (get_or all root no_supply) ≡ false → IsTrue (cuts p part ns) → ⊥
+no_cut : (p : Network) (part : PartState) (s : Layout) (all : List Supply) (root : ℕ) (ns : List ℕ) → IsShapeOf p part s → AreSupplies p.nodes s.root_of (length p.nodes) all → IsComponent p part root ns → cannot_balance (get_or all root no_supply) ≡ false → IsTrue (cuts p part ns) → ⊥
 no_cut p part s all root ns shape sums c balances h =
     let roots = shape.laid_out.root_of in
     let mine = nodes_with s.root_of root (length p.nodes) in
     let same : ns ≡ mine = one_list ns mine (IsNodeOf p part root) c.nodes (nodes_listed p part s.root_of root roots) in
     let balanced : node_rule.is_unbalanced p.nodes mine ≡ false = sym (sums_alike p s.root_of root (get_or all root no_supply) (sums.each root c.own.is_node)) ∙ balances in
-    let parts = and_parts (are_cut_nodes p.nodes ns && all_arcs (λ a row. not (crosses ns row) || rules_of.is_shut (fixed_state p part a row)) 0 p.arcs) (node_rule.is_unbalanced p.nodes ns) h in
+    let parts = and_parts (are_cut_nodes p.nodes ns && all_arcs (λ a row. not (crosses ns row) || is_shut (fixed_state p part a row)) 0 p.arcs) (node_rule.is_unbalanced p.nodes ns) h in
     false≢true (sym balanced ∙ ap (node_rule.is_unbalanced p.nodes) (sym same) ∙ parts.1)
 
 pub is_cut : (p : Network) (part : PartState) (s : Layout) (all : List Supply) (root : ℕ) (ns : List ℕ) → IsWithin p → IsShapeOf p part s → AreSupplies p.nodes s.root_of (length p.nodes) all → IsUnbalanced all root → ns ≡ nodes_with s.root_of root (length p.nodes) → Cuts p part ns
@@ -154,12 +141,12 @@ is_cut p part s all root ns w shape sums u e =
     let some = some_node p.nodes mine bad in
     let first = listed.sound 0 some in
     let cut_ok : IsTrue (are_cut_nodes p.nodes mine) = cut_nodes p.nodes mine listed.ascending (λ i h. (listed.sound i h).is_node) some in
-    let arcs_ok : IsTrue (all_arcs (λ a row. not (crosses mine row) || rules_of.is_shut (fixed_state p part a row)) 0 p.arcs) =
-    all_from (λ a row. not (crosses mine row) || rules_of.is_shut (fixed_state p part a row)) 0 p.arcs
-    (λ j row h. subst (λ (a : ℕ). IsTrue (not (crosses mine row) || rules_of.is_shut (fixed_state p part a row))) (sym (zero-add j)) (arc_passes p part s.root_of root roots w j row h)) in
+    let arcs_ok : IsTrue (all_arcs (λ a row. not (crosses mine row) || is_shut (fixed_state p part a row)) 0 p.arcs) =
+    all_from (λ a row. not (crosses mine row) || is_shut (fixed_state p part a row)) 0 p.arcs
+    (λ j row h. subst (λ (a : ℕ). IsTrue (not (crosses mine row) || is_shut (fixed_state p part a row))) (sym (zero-add j)) (arc_passes p part s.root_of root roots w j row h)) in
     let whole : IsTrue (cuts p part mine) =
-    and_from (are_cut_nodes p.nodes mine && all_arcs (λ a row. not (crosses mine row) || rules_of.is_shut (fixed_state p part a row)) 0 p.arcs) (node_rule.is_unbalanced p.nodes mine)
-    (and_from (are_cut_nodes p.nodes mine) (all_arcs (λ a row. not (crosses mine row) || rules_of.is_shut (fixed_state p part a row)) 0 p.arcs) cut_ok arcs_ok) bad in
+    and_from (are_cut_nodes p.nodes mine && all_arcs (λ a row. not (crosses mine row) || is_shut (fixed_state p part a row)) 0 p.arcs) (node_rule.is_unbalanced p.nodes mine)
+    (and_from (are_cut_nodes p.nodes mine) (all_arcs (λ a row. not (crosses mine row) || is_shut (fixed_state p part a row)) 0 p.arcs) cut_ok arcs_ok) bad in
     subst (Cuts p part) (sym e) (record {
       root = root;
       component = record { own = record { is_node = below; has_root = own_root (graph_of p.arcs) (is_there p part) (get_or mine 0 0) root first.has_root }; nodes = listed };

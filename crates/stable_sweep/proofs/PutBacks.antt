@@ -6,13 +6,13 @@ use Rattle.std.proofs.lemmas.Bool.{cases_eq, cases_lt, false≢true, or_cases}
 use Rattle.std.proofs.lemmas.Option.{slice_get_within, get_or_from_slice_get}
 use Rattle.gas_model.specs.declared.rows.ArcRow.{ArcRow}
 use Rattle.gas_model.specs.declared.rows.PartState.{PartState}
-use Rattle.gas_model.specs.declared.rows.Var.TheVariants.{Flow, Square}
+use Rattle.base_types.specs.declared.variables.Var.TheVariants.{Flow, Square}
 use Rattle.gas_model.specs.Rows.{Network}
 use Rattle.gas_model.specs.Points.{touches, arcs_at}
-use Rattle.gas_model.specs.Laws.{LawForm}
+use Rattle.gas_model.specs.declared.law_forms.LawForm.{LawForm}
 use Rattle.topo.specs.Graphs.{graph_of, no_arc, is_at}
-use Rattle.topo.proofs.Those.{those_are, arcs_at-those}
-use Rattle.tree_rules.specs.ArcRules.{OfFlow, OfFrom, OfTo}
+use Rattle.topo.proofs.PassingNumbers.{those_are, arcs_at-those}
+use Rattle.tree_rules.specs.declared.arc_vars.ArcVar.TheVariants.{OfFlow, OfFrom, OfTo}
 use Rattle.tree_rules.specs.Rules.{arc_var, fixed_form}
 use Rattle.tree_rules.proofs.StepSound.{some_is}
 use Rattle.tree_rules.proofs.Loosening.{some_from}

@@ -4,7 +4,7 @@ use Rattle.std.specs.Prelude.{slice_get}
 use Rattle.std.proofs.lemmas.Bool.{false≢true, and_parts}
 use Rattle.std.proofs.lemmas.Option.{slice_get_within}
 use Rattle.integer_laws.proofs.Ring.{linear}
-use Rattle.gas_model.specs.declared.rows.Var.{Var}
+use Rattle.base_types.specs.declared.variables.Var.{Var}
 use Rattle.gas_model.specs.declared.rows.NodeRow.{NodeRow}
 use Rattle.gas_model.specs.Rows.{Network}
 use Rattle.gas_model.specs.Boxes.{BoxFits, ends_of, is_var, is_empty}
@@ -87,7 +87,7 @@ quiet p b law s i = elim (s.each law i) [ inl w ↦ absurd (false≢true w) | in
 
 pub stable : (p : Network) (b : PartBox) → BoxFits p b.bounds → AreSettled p b [] → LeavesAll b.bounds → NoneCuts p b.part → IsStable p b
 stable p b f s all none = record {
-  filled = λ v t. all v (in_box p b.bounds v f t);
+  filled = all;
   open_still = open_still;
   no_move = λ m i. let l = of_step p b m.rule m.place m.var m.low m.value (step_parts p b m i.holds).rule in (quiet p b l.law s l.known).no_move m l.of_law i;
 }

@@ -7,8 +7,8 @@ use Rattle.std.proofs.lemmas.Int.{ints}
 use borrow.Author.Tests.{ltb-true}
 use Rattle.integer_laws.proofs.Ring.{linear, mul_le_left, mul_assoc, mul_left_comm, mul_one, le_or_lt}
 use Rattle.gas_model.specs.declared.rows.Ends.{Ends}
-use Rattle.gas_model.specs.declared.rows.Var.{Var}
-use Rattle.gas_model.specs.declared.rows.Var.TheVariants.{Flow, Square}
+use Rattle.base_types.specs.declared.variables.Var.{Var}
+use Rattle.base_types.specs.declared.variables.Var.TheVariants.{Flow, Square}
 use Rattle.gas_model.specs.Rows.{Network}
 use Rattle.gas_model.specs.Boxes.{Bounds, ends_of, no_ends, is_in_box, tightened, with_end, width_of}
 use Rattle.tree_cert.specs.declared.line.Step.{Step}
@@ -17,7 +17,7 @@ use Rattle.tree_rules.specs.Rules.{PartBox, stepped}
 use Rattle.tight_steps.specs.Best.{shrinks}
 use Rattle.tight_steps.proofs.ArcMoves.{step_parts}
 use Rattle.tight_steps.proofs.OtherArcs.{same_ends}
-use Rattle.stable_sweep.specs.Runs.{IsTurn}
+use Rattle.stable_sweep.specs.Runs.{IsNarrowing}
 use Rattle.stable_sweep.proofs.Sweeps.{in_box}
 use Rattle.stable_sweep.specs.Paths.{ArePath, count_on, StepsAreFew}
 
@@ -125,7 +125,7 @@ width_falls false C e h =
     let p = and_parts (int_le (pos 1) (e.hi -ℤ C)) (int_le (e.hi -ℤ e.lo) (pos 8 *ℤ (e.hi -ℤ C))) h in
     (omega (arith, linear, p.0), eighth (C -ℤ e.lo) (e.hi -ℤ e.lo) (e.hi -ℤ C) (omega (arith, linear)) (omega (arith, linear, p.1)))
 
-tightened_here : (b : Bounds) (v : Var) (low : Bool) (C : ℤ) → IsTrue (is_in_box b v) → ends_of (tightened b v low C) v ≡ with_end low C (ends_of b v)
+pub tightened_here : (b : Bounds) (v : Var) (low : Bool) (C : ℤ) → IsTrue (is_in_box b v) → ends_of (tightened b v low C) v ≡ with_end low C (ends_of b v)
 tightened_here b (Flow a) low C h = get_or-set_same b.flows a (with_end low C (ends_of b (Flow a))) no_ends (ltb-true a (length b.flows) h)
 tightened_here b (Square n) low C h = get_or-set_same b.squares n (with_end low C (ends_of b (Square n))) no_ends (ltb-true n (length b.squares) h)
 
@@ -136,7 +136,7 @@ record Tightens (w : ℤ) (b c : ℤ) : Type 0 where
   less : c ≤ℤ (b -ℤ pos 1)
   eighth : (pos 8 *ℤ c) ≤ℤ (pos 7 *ℤ b)
 
-tightens : (p : Network) (b : PartBox) (s : Step) (w : ℤ) → width_of (ends_of b.bounds s.var) ≤ℤ w → IsTrue (is_in_box b.bounds s.var) → IsTurn p b s → Tightens w (width_of (ends_of b.bounds s.var)) (width_of (ends_of (stepped b s).bounds s.var))
+tightens : (p : Network) (b : PartBox) (s : Step) (w : ℤ) → width_of (ends_of b.bounds s.var) ≤ℤ w → IsTrue (is_in_box b.bounds s.var) → IsNarrowing p b s → Tightens w (width_of (ends_of b.bounds s.var)) (width_of (ends_of (stepped b s).bounds s.var))
 tightens p b s w h i t =
     let here = tightened_here b.bounds s.var s.low s.value i in
     let falls = width_falls s.low s.value (ends_of b.bounds s.var) t.move.shrinks in

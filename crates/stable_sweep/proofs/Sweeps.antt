@@ -4,8 +4,8 @@ use Rattle.std.specs.Prelude.{nat_lt}
 use Rattle.std.proofs.lemmas.Bool.{cases_Bool, cases_eq}
 use Rattle.std.proofs.lemmas.List.{append-nil, length-set}
 use Rattle.integer_laws.proofs.Ring.{linear}
-use Rattle.gas_model.specs.declared.rows.Var.{Var}
-use Rattle.gas_model.specs.declared.rows.Var.TheVariants.{Flow, Square}
+use Rattle.base_types.specs.declared.variables.Var.{Var}
+use Rattle.base_types.specs.declared.variables.Var.TheVariants.{Flow, Square}
 use Rattle.gas_model.specs.declared.rows.Ends.{Ends}
 use Rattle.gas_model.specs.declared.rows.PartState.{PartState}
 use Rattle.gas_model.specs.Rows.{Network}
@@ -28,6 +28,7 @@ use Rattle.stable_sweep.specs.Waiting.{slot, KeepsHeld, IsTaken, PutsBack}
 use Rattle.stable_sweep.specs.Widths.{total}
 use Rattle.stable_sweep.specs.Settling.{AreSettled, AreSettledBut, Falls}
 use Rattle.stable_sweep.proofs.Measures.{total_less}
+use Rattle.stable_sweep.specs.Quiet.{IsTightMove}
 
 -- ---- runs of steps
 after_append : (b : PartBox) (xs ys : List Step) → after b (xs ++ ys) ≡ after (after b xs) ys
@@ -125,9 +126,9 @@ step_inside p K part b s f m = in_box p b s.var f (step_parts p (part_box K part
 pub step_within : (p : Network) (K : ℤ) (part : PartState) (b : Bounds) (s : Step) → IsMove p (part_box K part b) s → IsTrue (may_become s.low s.value (ends_of b s.var))
 step_within p K part b s m = (step_parts p (part_box K part b) s m.holds).within
 
-pub turn : (p : Network) (K : ℤ) (part : PartState) (b c : Bounds) (out more : List Step) (s : Step) → BoxFits p b → LeavesAll b → IsMove p (part_box K part b) s → c ≡ tightened b s.var s.low s.value → more ≡ out ++ s ∷ [] → Turn p K part b c out more s
+pub turn : (p : Network) (K : ℤ) (part : PartState) (b c : Bounds) (out more : List Step) (s : Step) → BoxFits p b → LeavesAll b → IsTightMove p (part_box K part b) s → c ≡ tightened b s.var s.low s.value → more ≡ out ++ s ∷ [] → Turn p K part b c out more s
 turn p K part b c out more s f all m e l =
-    let i = step_inside p K part b s f m in
+    let i = step_inside p K part b s f m.move in
     let there : IsTrue (is_in_box (tightened b s.var s.low s.value) s.var) = still_in b s.var s.var s.low s.value ∙ i in
     record {
       inside = subst (λ (x : Bounds). IsTrue (is_in_box x s.var)) (sym e) there;
@@ -135,8 +136,8 @@ turn p K part b c out more s f all m e l =
       extends = λ b0 out0 x.
           subst (λ (y : Bounds). Extends p b0 (part_box K part y) out0 more) (sym e)
           (subst (Extends p b0 (part_box K part (tightened b s.var s.low s.value)) out0) (sym l)
-          (extends_one p b0 (part_box K part b) out0 out s x (record { filled = all s.var i; move = m })));
-      less = subst (λ (x : Bounds). total x < total b) (sym e) (total_less b s.var s.low s.value i (step_within p K part b s m));
+          (extends_one p b0 (part_box K part b) out0 out s x (record { filled = all s.var i; move = m.move; tightest = m.tightest })));
+      less = subst (λ (x : Bounds). total x < total b) (sym e) (total_less b s.var s.low s.value i (step_within p K part b s m.move));
       filled = λ n. subst LeavesAll (sym e) (filled_more b s.var s.low s.value all (not_empty (ends_of (tightened b s.var s.low s.value) s.var) (subst (λ (x : Bounds). is_empty (ends_of x s.var) ≡ false) e n)));
     }
   where

@@ -1,8 +1,7 @@
 -- Boxes that are stable, and what settling keeps until one is.
-use Rattle.std.specs.Prelude.{◌≡◌, ℕ, ◌<◌, ◌≤ℤ◌, ◌⊎◌, true, List, length, IsTrue}
-use Rattle.gas_model.specs.declared.rows.Var.{Var}
+use Rattle.std.specs.Prelude.{◌≡◌, ℕ, ◌<◌, ◌⊎◌, true, List, length, IsTrue}
 use Rattle.gas_model.specs.Rows.{Network}
-use Rattle.gas_model.specs.Boxes.{ends_of, is_var}
+use Rattle.box_ends.specs.Empty.{LeavesAll}
 use Rattle.tree_cert.specs.declared.line.Step.{Step}
 use Rattle.tree_cert.specs.declared.line.Closing.{Closing}
 use Rattle.tree_rules.specs.Rules.{PartBox, closing_holds}
@@ -17,7 +16,7 @@ use Rattle.stable_sweep.specs.Waiting.{slot}
 -- no variable is empty, no closing holds, cuts being tried for whole components alone, and no rule has an allowed step
 -- that shrinks its width by an eighth
 pub record IsStable (p : Network) (b : PartBox) : Type 0 where
-  pub filled : (v : Var) → IsTrue (is_var p v) → (ends_of b.bounds v).lo ≤ℤ (ends_of b.bounds v).hi
+  pub filled : LeavesAll b.bounds
   pub open_still : (c : Closing) → IsTried p b.part c → IsTrue (closing_holds p b c) → ⊥
   pub no_move : (s : Step) → IsMove p b s → ⊥
 

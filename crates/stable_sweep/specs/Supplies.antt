@@ -9,8 +9,8 @@ abbrev pub no_supply : Supply
 no_supply = record { least = pos 0; greatest = pos 0 }
 
 -- it brings in something at least, or wants something at least
-abbrev pub is_unbalanced : Supply → Bool
-is_unbalanced s = int_lt (pos 0) s.least || int_lt s.greatest (pos 0)
+abbrev pub cannot_balance : Supply → Bool
+cannot_balance s = int_lt (pos 0) s.least || int_lt s.greatest (pos 0)
 
 -- the supply of those of the first k nodes that have this root
 pub record IsSupply (nodes : List NodeRow) (root_of : List ℕ) (root k : ℕ) (s : Supply) : Type 0 where
@@ -23,9 +23,9 @@ pub record AreSupplies (nodes : List NodeRow) (root_of : List ℕ) (k : ℕ) (al
 
 -- none of them is unbalanced, or this one is, the first of them
 pub record NoneUnbalanced (all : List Supply) : Type 0 where
-  pub none : (i : ℕ) → i < length all → is_unbalanced (slice_index_or all i no_supply) ≡ false
+  pub none : (i : ℕ) → i < length all → cannot_balance (slice_index_or all i no_supply) ≡ false
 
 pub record IsUnbalanced (all : List Supply) (i : ℕ) : Type 0 where
   pub within : i < length all
-  pub first : (j : ℕ) → j < i → is_unbalanced (slice_index_or all j no_supply) ≡ false
-  pub is : is_unbalanced (slice_index_or all i no_supply) ≡ true
+  pub first : (j : ℕ) → j < i → cannot_balance (slice_index_or all j no_supply) ≡ false
+  pub is : cannot_balance (slice_index_or all i no_supply) ≡ true

@@ -4,12 +4,12 @@ use Rattle.std.specs.List.{list_any}
 use Rattle.std.specs.Option.{option_map_or}
 use Rattle.gas_model.specs.declared.rows.ArcRow.{ArcRow}
 use Rattle.gas_model.specs.declared.rows.PartState.{PartState}
-use Rattle.gas_model.specs.declared.rows.Var.{Var}
+use Rattle.base_types.specs.declared.variables.Var.{Var}
 use Rattle.gas_model.specs.Rows.{Network}
 use Rattle.gas_model.specs.Rulings.{rulings_at}
 use Rattle.tree_cert.specs.declared.line.Head.{Head}
 use Rattle.tree_cert.specs.declared.line.Head.TheVariants.{Take, State, Half}
-use Rattle.tree_rules.specs.ArcRules.{OfFlow, OfFrom}
+use Rattle.tree_rules.specs.declared.arc_vars.ArcVar.TheVariants.{OfFlow, OfFrom}
 use Rattle.tree_rules.specs.Rules.{fixed_form}
 use Rattle.link_queue.specs.Queue.{Queue, holds, IsQueue}
 use Rattle.tight_steps.specs.declared.law.Law.{Law}

@@ -4,7 +4,7 @@ ghost use Rattle.std.specs.Int.{w64};
 ghost use Rattle.gas_model.specs.declared.rows.PartState.{PartState};
 ghost use Rattle.topo.specs.Walks.{those};
 ghost use Rattle.topo.specs.Shapes.{IsShapeOf};
-ghost use Rattle.stable_sweep.specs.Supplies.{is_unbalanced, AreSupplies, NoneUnbalanced, IsUnbalanced};
+ghost use Rattle.stable_sweep.specs.Supplies.{cannot_balance, AreSupplies, NoneUnbalanced, IsUnbalanced};
 ghost use Rattle.stable_sweep.specs.Components.{NoneCuts, Cuts};
 
 use gas_model::{List, NoMemory, NodeRow, Problem};
@@ -32,8 +32,8 @@ fn with_node(supply: Supply, node: &NodeRow) -> Supply
 }
 
 // Whether nodes with this supply bring in something at least, or want something at least.
-fn is_unbalanced(supply: Supply) -> bool
-    ensures { result ≡ is_unbalanced supply }
+fn cannot_balance(supply: Supply) -> bool
+    ensures { result ≡ cannot_balance supply }
 {
     0 < supply.least || supply.greatest < 0
 }
@@ -63,7 +63,7 @@ fn first_unbalanced(supplies: &[Supply]) -> Option<u32>
     ensures { MatchOption result (NoneUnbalanced supplies.now) (IsUnbalanced supplies.now) }
 {
     for (root, supply) in supplies.iter().enumerate() {
-        if is_unbalanced(*supply) {
+        if cannot_balance(*supply) {
             return Some(root as u32);
         }
     }

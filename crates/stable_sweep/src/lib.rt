@@ -3,8 +3,8 @@
 
 mod counts;
 mod cuts;
+mod law_moves;
 mod law_queue;
-mod laws;
 mod sweep;
 mod waiting;
 mod waking;
@@ -12,6 +12,3 @@ mod waking;
 pub use counts::steps_are_few;
 pub use law_queue::LawQueue;
 pub use sweep::{Settled, settle, settle_child};
-
-#[cfg(test)]
-mod tests;

@@ -13,8 +13,8 @@ ghost use Rattle.stable_sweep.specs.Waiting.{IsFew};
 ghost use Rattle.stable_sweep.specs.Widths.{total};
 
 use crate::cuts::first_cut;
+use crate::law_moves::{first_closing, first_step};
 use crate::law_queue::LawQueue;
-use crate::laws::{first_closing, first_step};
 use crate::waiting::{law_in, put_back};
 use crate::waking::wake;
 use box_core::VarBox;

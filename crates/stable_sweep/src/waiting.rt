@@ -1,18 +1,17 @@
 // The laws that a variable wakes.
 ghost use Rattle.std.specs.Prelude.{◌≡◌, ◌<◌, ◌+◌, length, true, IsTrue, if◌then◌else◌};
-ghost use Rattle.gas_model.specs.declared.rows.Var.TheVariants as var;
+ghost use Rattle.base_types.specs.declared.variables.Var.TheVariants as var;
 ghost use Rattle.gas_model.specs.Boxes.{is_var};
 ghost use Rattle.gas_model.specs.Choices.{PartFits};
-ghost use Rattle.box_rules.specs.ArcSides.{law_of_form};
-ghost use Rattle.tree_rules.specs.ArcRules.{OfFlow, OfFrom};
+ghost use Rattle.tree_rules.specs.declared.arc_vars.ArcVar.TheVariants.{OfFlow, OfFrom};
 ghost use Rattle.link_queue.specs.Queue.{holds};
 ghost use Rattle.tight_steps.specs.Moves.{is_law};
 ghost use Rattle.tight_steps.specs.Mentions.{form_mentions};
 ghost use Rattle.stable_sweep.specs.Waiting.{slot, arc_mentions, IsFew, KeepsHeld, PutsArc, PutsBack};
 
 use crate::law_queue::LawQueue;
-use box_rules::{Form, fixed_form};
-use gas_model::{PartState, Problem, Var};
+use box_rules::fixed_form;
+use gas_model::{LawForm, PartState, Problem, Var};
 use tight_steps::Law;
 
 /// The law in a slot: the nodes' in order, and then the arcs'.
@@ -44,14 +43,17 @@ fn put(queue: &mut LawQueue, slot: u32, current: u32)
 }
 
 // Whether the law of an arc mentions its flow, or else its squares.
-fn form_mentions(form: &Form, flow: bool) -> bool
-    ensures { result ≡ form_mentions (law_of_form form.now) (if flow then OfFlow else OfFrom) }
+fn form_mentions(form: &LawForm, flow: bool) -> bool
+    ensures { result ≡ form_mentions form.now (if flow then OfFlow else OfFrom) }
 {
     match form {
-        Form::Equals => !flow,
-        Form::Shuts => flow,
-        Form::Never => false,
-        Form::Drags(_) | Form::Loses { .. } | Form::Reduces { .. } | Form::Raises { .. } => true,
+        LawForm::Equals => !flow,
+        LawForm::Shuts => flow,
+        LawForm::Never => false,
+        LawForm::Drags(_)
+        | LawForm::Loses { .. }
+        | LawForm::Reduces { .. }
+        | LawForm::Raises { .. } => true,
     }
 }
 

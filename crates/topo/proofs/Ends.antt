@@ -4,7 +4,7 @@ use Rattle.std.specs.Prelude.{Option}
 use Rattle.std.proofs.lemmas.List.{get_or-map, length-map}
 use Rattle.std.proofs.lemmas.Option.{slice_get-get_or}
 use Rattle.gas_model.specs.declared.rows.ArcRow.{ArcRow}
-use Rattle.gas_model.specs.declared.rows.ArcState.{ArcState}
+use Rattle.base_types.specs.declared.states.ArcState.{ArcState}
 use Rattle.gas_model.specs.Rows.{Network}
 use Rattle.gas_model.specs.Within.{IsWithin}
 use Rattle.topo.specs.Graphs.{graph_of, no_arc}
@@ -12,7 +12,7 @@ use Rattle.topo.specs.Roles.{EndsBelow}
 use Rattle.topo.specs.States.{is_active}
 use Rattle.topo.specs.Split.{ends_of_active}
 use Rattle.topo.specs.Walks.{those}
-use Rattle.topo.proofs.Those.{those_below}
+use Rattle.topo.proofs.PassingNumbers.{those_below}
 
 -- those that active arcs lead to
 pub active_below : (nodes : ℕ) (arcs : List ArcRow) (state : ℕ → Option ArcState) (i : ℕ) → EndsBelow arcs nodes → i < length (ends_of_active arcs state) → get_or (ends_of_active arcs state) i 0 < nodes

@@ -6,25 +6,25 @@ use Rattle.std.proofs.Math.Path.{fun_ext}
 use Rattle.std.proofs.lemmas.Bool.{cases_lt}
 use Rattle.std.proofs.lemmas.Bool.Decides.{nat_tests}
 use Rattle.std.proofs.lemmas.List.{length-map, get_or-map, get_or_past}
-use Rattle.gas_model.specs.declared.rows.Var.{Var}
+use Rattle.base_types.specs.declared.variables.Var.{Var}
 use Rattle.topo.specs.declared.forest.Role.{Role}
 use Rattle.topo.specs.declared.forest.Role.TheVariants.{Away, Tree, Chord}
 use Rattle.topo.specs.Graphs.{Graph, is_at, Joined, stay, IsRoot, IsChord, IsTreeArc, Lists, HasOnce}
 use Rattle.topo.specs.Roles.{IsRole, AreRoles, Spans, is_role_tree, is_role_chord, has_tree_role, has_chord_role}
 use Rattle.topo.specs.Walks.{those, far, far_of, Step, step_at as at, is_tree, GoesOn, AreWalks}
 use Rattle.topo.specs.Shapes.{AreRoots, IsOwnRoot, IsOtherNode, IsLaidOut}
-use Rattle.topo.proofs.Those.{those_list, any_those}
+use Rattle.topo.proofs.PassingNumbers.{those_list, any_those}
 use Rattle.topo.proofs.Labels.{then_along, back, wider}
 use Rattle.topo.proofs.Acyclic.{by_tree}
 use Rattle.topo.proofs.Spanned.{spans}
-use Rattle.topo.proofs.Several.{Several, several, far_joined}
+use Rattle.topo.proofs.RootWalks.{Several, several, far_joined}
 
 -- a node has one root
 pub one_root : (g : Graph) (keep : ℕ → Bool) (n r q : ℕ) → IsRoot g keep n r → IsRoot g keep n q → r ≡ q
 one_root g keep n r q a b = let h = a.first q b.joined in let k = b.first r a.joined in omega arith
 
 -- a root is its own root
-own_root : (g : Graph) (keep : ℕ → Bool) (n r : ℕ) → IsRoot g keep n r → IsRoot g keep r r
+pub own_root : (g : Graph) (keep : ℕ → Bool) (n r : ℕ) → IsRoot g keep n r → IsRoot g keep r r
 own_root g keep n r a = record { joined = stay; first = λ m j. a.first m (then_along g keep n r m a.joined j) }
 
 -- joined nodes that are their own roots are one

@@ -1,5 +1,5 @@
-pub mod Those
-pub mod Fixed
+pub mod PassingNumbers
+pub mod FixedStates
 pub mod Firsts
 pub mod Labels
 pub mod Climb
@@ -10,7 +10,7 @@ pub mod Reached
 pub mod Rounds
 pub mod Spanned
 pub mod Walked
-pub mod Several
+pub mod RootWalks
 pub mod Laid
 pub mod OnlyOne
 pub mod Ends

@@ -1,7 +1,7 @@
 -- What the parts of a shape make together.
 use Rattle.std.proofs.Common.{◌≡◌, ℕ, ◌<◌, ◌==◌, sym, ap, ◌∙◌, List, length, get_or, subst, Bool}
 use Rattle.std.specs.Prelude.{Option}
-use Rattle.gas_model.specs.declared.rows.ArcState.{ArcState}
+use Rattle.base_types.specs.declared.states.ArcState.{ArcState}
 use Rattle.gas_model.specs.declared.rows.PartState.{PartState}
 use Rattle.gas_model.specs.Rows.{Network}
 use Rattle.gas_model.specs.Within.{IsWithin}
@@ -13,9 +13,9 @@ use Rattle.topo.specs.Roles.{AreRoles, has_tree_role, has_chord_role}
 use Rattle.topo.specs.Walks.{those, AreWalks}
 use Rattle.topo.specs.Split.{ends_of_active, split_of}
 use Rattle.topo.specs.Shapes.{Layout, AreRoots, IsLaidOut, IsShapeOf}
-use Rattle.topo.proofs.Those.{arcs_at-those}
+use Rattle.topo.proofs.PassingNumbers.{arcs_at-those}
 use Rattle.topo.proofs.Ends.{within_ends}
-use Rattle.topo.proofs.Fixed.{states_are, kept_there}
+use Rattle.topo.proofs.FixedStates.{states_are, kept_there}
 use Rattle.topo.proofs.Laid.{laid_out}
 
 -- all that the code says of the parts

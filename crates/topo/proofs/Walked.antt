@@ -7,7 +7,7 @@ use Rattle.std.proofs.lemmas.List.Concat.{flat_map-append}
 use Rattle.topo.specs.Graphs.{Graph, is_at}
 use Rattle.topo.specs.Walks.{those, far, onward, taken, IsWalkFrom, Step, step_at as at, node, by, Grown}
 use Rattle.topo.specs.Roles.{Spans}
-use Rattle.topo.proofs.Those.{those_below}
+use Rattle.topo.proofs.PassingNumbers.{those_below}
 use Rattle.topo.proofs.Rounds.{grown_on, grown_none, grown_short}
 
 -- old is the walk before this root, and now the walk after p nodes beyond the root

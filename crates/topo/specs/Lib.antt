@@ -5,5 +5,5 @@ pub mod Roles
 pub mod Forests
 pub mod Split
 pub mod Shapes
-pub mod Kept
+pub mod Layouts
 pub mod Laws

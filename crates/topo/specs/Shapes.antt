@@ -1,7 +1,7 @@
 -- The shape of a network in a part state.
 use Rattle.std.specs.Prelude.{◌≡◌, ℕ, ◌<◌, Bool, List, length, map, slice_index_or}
 use Rattle.gas_model.specs.declared.rows.PartState.{PartState}
-use Rattle.gas_model.specs.declared.rows.Var.{Var}
+use Rattle.base_types.specs.declared.variables.Var.{Var}
 use Rattle.gas_model.specs.Rows.{Network}
 use Rattle.gas_model.specs.Incidence.{KeepsArcsAt}
 use Rattle.topo.specs.Graphs.{Graph, graph_of, IsRoot, IsChord, IsTreeArc, Lists, HasOnce}

@@ -1,18 +1,15 @@
 -- Which arcs of a network are there in a part state.
 use Rattle.std.specs.Prelude.{ℕ, not, List, Bool, true, false, Option, Some, None, slice_get, slice_index_or, option_and_then}
-use Rattle.gas_model.specs.declared.rows.ArcState.{ArcState}
-use Rattle.gas_model.specs.declared.rows.ArcState.TheVariants.{Shut, Active}
+use Rattle.base_types.specs.declared.states.ArcState.{ArcState}
+use Rattle.base_types.specs.declared.states.ArcState.TheVariants.{Active}
 use Rattle.gas_model.specs.declared.rows.PartState.{PartState}
 use Rattle.gas_model.specs.Rows.{Network}
 use Rattle.gas_model.specs.Choices.{fixed_state}
+use Rattle.gas_model.specs.Laws.{is_shut}
 
 -- the state of the arc a that is fixed, if there is such an arc and one is
 abbrev pub fixed_at : Network → PartState → ℕ → Option ArcState
 fixed_at p part a = option_and_then (fixed_state p part a) (slice_get p.arcs a)
-
-abbrev pub is_shut : Option ArcState → Bool
-is_shut (Some Shut) = true
-is_shut _ = false
 
 -- only control valves and stations have this state
 abbrev pub is_active : Option ArcState → Bool

@@ -2,8 +2,8 @@
 //! tree arcs, and the variables that a box is split at first.
 #![tactic(auto)]
 
+mod fixed;
 mod forest;
-mod incidence;
 mod laws;
 mod roles;
 mod shape;
@@ -13,6 +13,3 @@ mod walking;
 pub use laws::one_shape;
 pub use shape::Shape;
 pub use walking::far;
-
-#[cfg(test)]
-mod tests;

@@ -1,13 +1,13 @@
 // The role of each arc, and the root of each node.
 ghost use Rattle.std.specs.Prelude.{◌≡◌, ◌<◌, ◌≤◌, ℕ, length, slice_index, IfOk, ◌==◌};
 ghost use Rattle.topo.specs.Graphs.{graph_of};
-ghost use Rattle.topo.specs.States.{is_shut, is_kept};
+ghost use Rattle.topo.specs.States.{is_kept};
 ghost use Rattle.topo.specs.Roles.{AreRoles, EndsBelow, has_chord_role};
 ghost use Rattle.topo.specs.Shapes.{AreRoots};
 ghost use Rattle.topo.specs.Walks.{those};
 
 use crate::forest::{Role, flatten, unite};
-use gas_model::{ArcRow, ArcState, NoMemory};
+use gas_model::{ArcRow, ArcState, NoMemory, is_shut};
 use std::alloc::Global;
 
 /// The role of each arc, and the root of each node.
@@ -17,19 +17,13 @@ pub struct Parts {
     pub root_of: Vec<u32>,
 }
 
-fn is_shut(state: Option<ArcState>) -> bool
-    ensures { result ≡ is_shut state }
-{
-    state == Some(ArcState::Shut)
-}
-
 // The numbers below `count`.
 fn counted(alloc: Global, count: usize) -> Result<Vec<u32>, NoMemory>
     requires { count ≤ 2000 }
     ensures length { IfOk result (λ v. length v.items ≡ count) }
     ensures each { IfOk result (λ v. (n : ℕ) → n < count → slice_index v.items n ≡ n) }
 {
-    let mut numbers = Vec::new(alloc);
+    let mut numbers = Vec::with_capacity(alloc, count)?;
     for n in 0..count {
         numbers.push(n as u32)?;
     }
@@ -49,7 +43,7 @@ fn roles_of(
     ensures roles { IfOk result (λ roles. AreRoles (graph_of arcs.now) (is_kept states.now) roles.items) }
     ensures roots { IfOk result (λ roles. AreRoots (graph_of arcs.now) (is_kept states.now) (length roots.old) roots.new) }
 {
-    let mut roles = Vec::new(alloc);
+    let mut roles = Vec::with_capacity(alloc, arcs.len())?;
     for (a, row) in arcs.iter().enumerate() {
         let role = if is_shut(states[a]) {
             Role::Away

@@ -3,13 +3,14 @@ ghost use Rattle.std.specs.Prelude.{◌≡◌, ◌<◌, [], length, slice_index,
 ghost use Rattle.gas_model.specs.Choices.{PartFits};
 ghost use Rattle.topo.specs.Shapes.{IsShapeOf};
 
-use crate::incidence::{ArcsAt, arcs_at_nodes, fixed_states};
+use crate::fixed::fixed_states;
 use crate::roles::{chords_of, own_roots, parts_of};
 use crate::split::split_list;
 use crate::walking::{at_node, walk_of};
-use gas_model::{NoMemory, PartState, Problem, Var};
+use gas_model::{ArcsAt, NoMemory, PartState, Problem, Var};
 use std::alloc::Global;
 use std::marker::Model;
+use std::rc::Rc;
 
 /// The shape of a network in a part state.
 ///
@@ -22,7 +23,7 @@ pub struct Shape {
     root_of: Vec<u32>,
     chords: Vec<u32>,
     walk: Vec<(u32, u32)>,
-    at_node: Vec<ArcsAt>,
+    at_node: Rc<Vec<ArcsAt>>,
     split_list: Vec<Var>,
 }
 
@@ -31,7 +32,7 @@ impl Model for Shape {
 
     ghost Value = { Layout };
 
-    ghost use Rattle.topo.specs.Kept.{layout};
+    ghost use Rattle.topo.specs.Layouts.{layout};
 
     ghost view = { layout };
 }
@@ -47,7 +48,7 @@ impl Shape {
         let arcs = p.arcs();
         let states = fixed_states(alloc, p, state)?;
         let parts = parts_of(alloc, nodes, arcs, states.as_slice())?;
-        let at_node = arcs_at_nodes(alloc, p)?;
+        let at_node = p.shared_arcs_at()?;
         let roots = own_roots(alloc, parts.root_of.as_slice())?;
         let chords = chords_of(alloc, parts.roles.as_slice())?;
         let walk = walk_of(

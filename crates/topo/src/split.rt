@@ -1,6 +1,6 @@
 // The variables that a box is split at first.
 ghost use Rattle.std.specs.Prelude.{◌≡◌, ◌<◌, ◌≤◌, ◌++◌, ◌∷◌, [], ℕ, List, length, map, slice_index, IfOk, OnOk, EachIndex};
-ghost use Rattle.gas_model.specs.declared.rows.Var.TheVariants as var;
+ghost use Rattle.base_types.specs.declared.variables.Var.TheVariants as var;
 ghost use Rattle.topo.specs.Roles.{EndsBelow};
 ghost use Rattle.topo.specs.States.{is_active, state_in};
 ghost use Rattle.topo.specs.Split.{firsts, ends_of_active, split_of, HasFirsts};

@@ -6,8 +6,7 @@ ghost use Rattle.topo.specs.Roles.{EndsBelow, Spans, is_role_tree, has_tree_role
 ghost use Rattle.topo.specs.Walks.{Step, far, is_by, IsWalkFrom, AreWalks};
 
 use crate::forest::Role;
-use crate::incidence::ArcsAt;
-use gas_model::{ArcRow, NoMemory};
+use gas_model::{ArcRow, ArcsAt, NoMemory};
 use std::alloc::Global;
 
 fn is_onward(role: Role, arc: u32, by: Option<u32>) -> bool
@@ -96,7 +95,7 @@ pub fn walk_of(
     requires roots { EachIndex roots.now (λ i. slice_index_or roots.now i 0 < length at.now) }
     ensures { IfOk result (λ walk. AreWalks (graph_of arcs.now) (has_tree_role roles.now) roots.now (length roots.now) walk.items) }
 {
-    let mut walk = Vec::new(alloc);
+    let mut walk = Vec::with_capacity(alloc, arcs.len())?;
     for root in roots {
         walk_from(&mut walk, arcs, at, roles, *root)?;
     }

@@ -15,14 +15,11 @@ cmp_self i = sym (nat_cmp_is i i Equal refl)
 cmp_less : (i j : ℕ) → i < j → nat_cmp i j ≡ Less
 cmp_less i j lt = sym (nat_cmp_is i j Less lt)
 
-says : (i j : ℕ) (o : Ordering) → nat_cmp i j ≡ o → MatchOrdering o (i < j) (i ≡ j) (j < i)
-says i j o e = numbers i j o e
-
 trans_by : (i j k : ℕ) (a b : Ordering) → nat_cmp i j ≡ a → nat_cmp j k ≡ b → (x y z : Bool) → (x ≡ true → y ≡ true → z ≡ true) → pick a x ≡ true → pick b y ≡ true → pick (nat_cmp i k) z ≡ true
-trans_by i j k Less Less e f x y z ih p q = let a = says i j Less e in let b = says j k Less f in let c = cmp_less i k (omega arith) in rw c refl
-trans_by i j k Less Equal e f x y z ih p q = let a = says i j Less e in let b = says j k Equal f in let c = cmp_less i k (omega arith) in rw c refl
-trans_by i j k Equal Less e f x y z ih p q = let a = says i j Equal e in let b = says j k Less f in let c = cmp_less i k (omega arith) in rw c refl
-trans_by i j k Equal Equal e f x y z ih p q = let a = says i j Equal e in let b = says j k Equal f in let c : i ≡ k = a ∙ b in let d = cmp_self k in rw (c, d) (ih p q)
+trans_by i j k Less Less e f x y z ih p q = let a = numbers i j Less e in let b = numbers j k Less f in let c = cmp_less i k (omega arith) in rw c refl
+trans_by i j k Less Equal e f x y z ih p q = let a = numbers i j Less e in let b = numbers j k Equal f in let c = cmp_less i k (omega arith) in rw c refl
+trans_by i j k Equal Less e f x y z ih p q = let a = numbers i j Equal e in let b = numbers j k Less f in let c = cmp_less i k (omega arith) in rw c refl
+trans_by i j k Equal Equal e f x y z ih p q = let a = numbers i j Equal e in let b = numbers j k Equal f in let c : i ≡ k = a ∙ b in let d = cmp_self k in rw (c, d) (ih p q)
 trans_by i j k Greater b e f x y z ih p q = absurd cc
 trans_by i j k a Greater e f x y z ih p q = absurd cc
 

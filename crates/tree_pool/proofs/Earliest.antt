@@ -10,10 +10,10 @@ use Rattle.tree_pool.specs.Order.{order}
 use Rattle.tree_pool.specs.Rows.{Row, Waiting, IsMap}
 use Rattle.tree_pool.specs.Nodes.{standing_of, is_waiting, row_of, rows_of, IsFirstBelow}
 use Rattle.tree_pool.specs.Calls.{NodesPass}
-use Rattle.tree_pool.proofs.Kept.{differs}
+use Rattle.tree_pool.proofs.RowChanges.{differs}
 use Rattle.tree_pool.proofs.Paths.{says, earlier_trans}
 use Rattle.tree_pool.proofs.NodeList.{row_here, row_back}
-use Rattle.tree_pool.proofs.Boxes.{node_at}
+use Rattle.tree_pool.proofs.NextBoxes.{node_at}
 use Rattle.tree_pool.proofs.PoolKeeps.{waits_so, not_waits}
 
 last : (m i : ℕ) → m < i + 1 → (m < i) ⊎ (m ≡ i)

@@ -1,7 +1,7 @@
 pub mod Lists
-pub mod Kept
+pub mod RowChanges
 pub mod Shown
-pub mod Whole
+pub mod WholeTrees
 pub mod Single
 pub mod Paths
 pub mod PathsOf
@@ -13,6 +13,8 @@ pub mod Ruled
 pub mod Onward
 pub mod Ahead
 pub mod Texts
-pub mod Boxes
+pub mod NextBoxes
 pub mod Earliest
 pub mod StillHeld
+pub mod GivenBack
+pub mod WorksAfter

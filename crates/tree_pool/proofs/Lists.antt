@@ -1,8 +1,9 @@
--- Lists with one item changed, or with more at the end; paths; looking up by path.
-use Rattle.std.proofs.Common.{◌≡◌, ◌≢◌, ℕ, zero, suc, ◌+◌, Bool, true, false, cond, ◌&&◌, List, [], ◌∷◌, ◌++◌, length, Some, refl, ap, subst, ◌∙◌, ◌⊎◌, inl, inr, eqb-true, eq-eqb, arith}
-use Rattle.std.specs.Prelude.{slice_get, ◌==◌}
+-- Lists with one item changed, or with more at the end; mapped lists and equal items; paths; looking up by path.
+use Rattle.std.proofs.Common.{◌≡◌, ◌≢◌, ℕ, zero, suc, ◌+◌, ◌<◌, Bool, true, false, cond, ◌&&◌, List, [], ◌∷◌, ◌++◌, length, map, Option, Some, None, refl, ap, subst, ◌∙◌, ◌⊎◌, inl, inr, eqb-true, eq-eqb, arith}
+use Rattle.std.specs.Prelude.{slice_get, slice_set, replicate, ◌==◌}
 use Rattle.tree_pool.specs.Path.{same}
-use Rattle.tree_pool.specs.Rows.{Row, update, row_at}
+use Rattle.tree_cert.specs.declared.line.Head.{Head}
+use Rattle.tree_pool.specs.Rows.{Row, update, child_rows, row_at}
 
 pub get_updated : {A : Type 0} (xs : List A) (n : ℕ) (f : A → A) (x : A) → slice_get xs n ≡ Some x → slice_get (update xs n f) n ≡ Some (f x)
 get_updated [] n f x h = absurd cc
@@ -55,6 +56,58 @@ appended_cases (x ∷ xs) ys (suc n) y h =
       | inl left ↦ inl left
       | inr right ↦ inr (right.0, (let e = right.1 in omega arith), right.2)
     ]
+
+pub length-child_rows : (path : List ℕ) (k : ℕ) (heads : List Head) → length (child_rows path k heads) ≡ length heads
+length-child_rows path k [] = refl
+length-child_rows path k (h ∷ heads) = ap suc (length-child_rows path (suc k) heads)
+
+-- something stands at each place of a list, and only one thing
+pub there : {A : Type 0} (xs : List A) (k : ℕ) → k < length xs → (x : A) × (slice_get xs k ≡ Some x)
+there [] k lt = absurd (omega arith)
+there (x ∷ xs) zero lt = (x, refl)
+there (x ∷ xs) (suc k) lt = there xs k (omega arith)
+
+pub same_row : {A : Type 0} (xs : List A) (m n : ℕ) (x y : A) → slice_get xs m ≡ Some x → slice_get xs n ≡ Some y → m ≡ n → x ≡ y
+same_row xs m n x y h g e = cc
+
+-- what stands at a place of a mapped list
+pub from_map : {A B : Type 0} (f : A → B) (xs : List A) (k : ℕ) (y : B) → slice_get (map f xs) k ≡ Some y → (x : A) × (slice_get xs k ≡ Some x) × (f x ≡ y)
+from_map f [] k y h = absurd cc
+from_map f (x ∷ xs) zero y h = (x, refl, cc)
+from_map f (x ∷ xs) (suc k) y h = from_map f xs k y h
+
+pub to_map : {A B : Type 0} (f : A → B) (xs : List A) (k : ℕ) (x : A) → slice_get xs k ≡ Some x → slice_get (map f xs) k ≡ Some (f x)
+to_map f [] k x at = absurd cc
+to_map f (y ∷ ys) zero x at = let e : y ≡ x = cc in ap (λ z. Some (f z)) e
+to_map f (y ∷ ys) (suc k) x at = to_map f ys k x at
+
+-- each of so many equal items
+pub get_replicate : {A : Type 0} (n : ℕ) (x : A) (k : ℕ) → k < n → slice_get (replicate n x) k ≡ Some x
+get_replicate zero x k lt = absurd (omega arith)
+get_replicate (suc n) x zero lt = refl
+get_replicate (suc n) x (suc k) lt = get_replicate n x k (omega arith)
+
+-- a list with one item put in the place of another
+pub set_cases : {A : Type 0} (xs : List A) (n m : ℕ) (x y : A) → slice_get (slice_set xs n x) m ≡ Some y → ((m ≡ n) × (x ≡ y)) ⊎ (slice_get xs m ≡ Some y)
+set_cases [] n m x y h = absurd cc
+set_cases (z ∷ xs) zero zero x y h = inl (refl, cc)
+set_cases (z ∷ xs) zero (suc m) x y h = inr h
+set_cases (z ∷ xs) (suc n) zero x y h = inr h
+set_cases (z ∷ xs) (suc n) (suc m) x y h = elim (set_cases xs n m x y h) [ inl e ↦ inl (ap suc e.0, e.1) | inr e ↦ inr e ]
+
+pub set_other : {A : Type 0} (xs : List A) (n m : ℕ) (x y : A) → m ≢ n → slice_get xs m ≡ Some y → slice_get (slice_set xs n x) m ≡ Some y
+set_other [] n m x y ne h = absurd cc
+set_other (z ∷ xs) zero zero x y ne h = absurd (ne refl)
+set_other (z ∷ xs) zero (suc m) x y ne h = h
+set_other (z ∷ xs) (suc n) zero x y ne h = h
+set_other (z ∷ xs) (suc n) (suc m) x y ne h = set_other xs n m x y (λ e. ne (ap suc e)) h
+
+pub set_some : {A : Type 0} (xs : List (Option A)) (n m : ℕ) (y : A) → slice_get (slice_set xs n None) m ≡ Some (Some y) → slice_get xs m ≡ Some (Some y)
+set_some [] n m y h = absurd cc
+set_some (z ∷ xs) zero zero y h = absurd cc
+set_some (z ∷ xs) zero (suc m) y h = h
+set_some (z ∷ xs) (suc n) zero y h = h
+set_some (z ∷ xs) (suc n) (suc m) y h = set_some xs n m y h
 
 pub same_self : (p : List ℕ) → same p p ≡ true
 same_self [] = refl

@@ -7,7 +7,7 @@ use Rattle.tree_cert.specs.declared.line.Head.{Head}
 use Rattle.tree_pool.specs.declared.node.Node.{Node}
 use Rattle.tree_pool.specs.Rows.{Row, Waiting, update, child_rows, after}
 use Rattle.tree_pool.specs.Nodes.{row_of, rows_of}
-use Rattle.tree_pool.specs.Places.{children_from}
+use Rattle.tree_pool.specs.Lineages.{children_from}
 use Rattle.tree_pool.specs.Calls.{fresh_node, fresh_nodes}
 
 pub length-rows : (ps : List (List ℕ)) (ns : List Node) → length ps ≡ length ns → length (rows_of ps ns) ≡ length ns

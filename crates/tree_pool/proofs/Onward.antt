@@ -13,8 +13,8 @@ use Rattle.tree_pool.specs.Rows.{Standing, Splits, Row, IsMap}
 use Rattle.tree_pool.specs.Shown.{End, Opens, Closes, Forks, Work, end_of, work_of, works, IsBoxOf, AreChildrenOf, Shows}
 use Rattle.tree_pool.specs.Lines.{head_lines, step_lines, end_line, own_lines, children_of, HasChildren, After, Remains, Pending, IsLineOf}
 use Rattle.tree_pool.proofs.Shown.{work_at}
-use Rattle.tree_pool.proofs.Kept.{within}
 use Rattle.tree_pool.proofs.Single.{show_one_tree}
+use Rattle.tree_pool.proofs.Lists.{there}
 
 -- what comes after the end of the box at a path
 abbrev RemainsAt : (List ℕ → Option Work) → List ℕ → End → List Line → Type 0
@@ -115,7 +115,7 @@ module _ (rows : List Row) (map : IsMap rows) where
   -- the text from the root on is the whole tree's
   pub root_pending : (t : Tree) → Shows (works rows) [] t → Pending rows (Some 0) (box_lines t)
   root_pending t shows =
-      let q = within rows 0 map.some in
+      let q = there rows 0 map.some in
       let top = map.top q.0 q.1 in
       let found : works rows [] ≡ Some (work_of q.0) = subst (λ (p : List ℕ). works rows p ≡ Some (work_of q.0)) top.0 (work_at rows map 0 q.0 q.1) in
       let shown = subst (λ (o : Option Work). Holds o (λ x. IsBoxOf (works rows) [] x.steps x.end t)) found shows in
@@ -163,7 +163,7 @@ module _ (rows : List Row) (map : IsMap rows) where
 
   pub stands_in : (t : Tree) → Shows (works rows) [] t → (path : List ℕ) (m : ℕ) (r : Row) → slice_get rows m ≡ Some r → r.path ≡ path → Stands t r
   stands_in t shows [] m r here is =
-      let q = within rows 0 map.some in
+      let q = there rows 0 map.some in
       let top = map.top q.0 q.1 in
       let zero : m ≡ 0 = map.distinct m 0 r q.0 here q.1 (is ∙ sym top.0) in
       stands_from t m r [] (box_lines t) here refl (subst (λ (n : ℕ). Pending rows (Some n) (box_lines t)) (sym zero) (root_pending t shows))

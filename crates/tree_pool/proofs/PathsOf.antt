@@ -9,8 +9,8 @@ use Rattle.std.specs.declared.cmp.Ordering.TheVariants.{Less, Equal, Greater}
 use Rattle.tree_pool.specs.Order.{order, or_then}
 use Rattle.std.proofs.lemmas.List.{append-nil}
 use Rattle.tree_pool.proofs.Lists.{get_left, appended_cases}
-use Rattle.tree_pool.specs.declared.places.Place.{Place}
-use Rattle.tree_pool.specs.Places.{path_below, paths_after, paths_of, children_from, places_of, IsArena}
+use Rattle.tree_pool.specs.declared.lineage.Place.{Place}
+use Rattle.tree_pool.specs.Lineages.{path_below, paths_after, paths_of, children_from, places_of, IsArena}
 
 pub places_more : (parent k c : ℕ) → places_of parent k (c + 1) ≡ places_of parent k c ++ (record { parent = parent; nth = k + c }) ∷ []
 places_more parent k zero = let e : k + 0 ≡ k = omega arith in rw e refl

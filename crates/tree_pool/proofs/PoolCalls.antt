@@ -11,7 +11,7 @@ use Rattle.tree_pool.specs.declared.node.BranchBy.{BranchBy}
 use Rattle.tree_pool.specs.declared.node.Node.{Node}
 use Rattle.tree_pool.specs.declared.node.Standing as declared
 use Rattle.tree_pool.specs.declared.node.Standing.TheVariants as nodes
-use Rattle.tree_pool.specs.Places.{children_from}
+use Rattle.tree_pool.specs.Lineages.{children_from}
 use Rattle.tree_pool.specs.Rows.{Waiting, Held, Splits, Row, first_row, update, fill, stand, after, NotSplit, IsMap, IsFirstWaiting}
 use Rattle.tree_cert.specs.declared.line.Line.{Line}
 use Rattle.tree_cert.specs.Tree.{Tree}
@@ -20,12 +20,12 @@ use Rattle.tree_pool.specs.Walks.{IsNext}
 use Rattle.tree_pool.specs.Lines.{Remains, Pending, IsLineOf}
 use Rattle.tree_pool.specs.Nodes.{branch_of, standing_of, is_waiting, row_of, rows_of, IsFirstBelow, IsPool, AreRows}
 use Rattle.tree_pool.specs.Calls.{IfRow, IsHeld, HasOrderedCut, fresh_nodes, root_node, NodesPass, LastBefore}
-use Rattle.tree_pool.proofs.Kept.{within}
 use Rattle.tree_pool.proofs.Totals.{lines_filled, lines_stood}
 use Rattle.tree_pool.proofs.NodeList.{length-rows, row_here, row_back, rows_set}
 use Rattle.tree_pool.proofs.Onward.{line_number}
-use Rattle.tree_pool.proofs.Boxes.{row_of_number}
+use Rattle.tree_pool.proofs.NextBoxes.{row_of_number}
 use Rattle.tree_pool.proofs.PoolKeeps.{none_updated, none_before, none_less, pool_from, first_of_all, held_whole, waiting_whole, pool_set, pool_split}
+use Rattle.tree_pool.proofs.Lists.{there}
 
 -- a held box is a node that is held
 pub held_node : (ps : List (List ℕ)) (ns : List Node) → length ps ≡ length ns → (n : ℕ) (x : Node) (rows : List Row) → rows_of ps ns ≡ rows → IsHeld rows n → x ≡ get_or ns n x
@@ -54,7 +54,7 @@ pub depth_found : (ps : List (List ℕ)) (ns : List Node) → length ps ≡ leng
 depth_found ps ns sized rows view n lt =
     let lr = length-rows ps ns sized in
     let lv = ap length view in
-    let q = within rows n lt in
+    let q = there rows n lt in
     let z = row_back ps ns n q.0 (subst (λ (rs : List Row). slice_get rs n ≡ Some q.0) (sym view) q.1) in
     (omega arith, λ d e. subst (λ (o : Option Row). Holds o (λ r. d ≡ length r.path)) (sym q.1) (e ∙ sym (ap (λ (r : Row). length r.path) z.2)))
 
@@ -142,7 +142,7 @@ root_waits : (m : ℕ) (q : Row) → slice_get (first_row ∷ []) m ≡ Some q �
 root_waits zero q h = let e : first_row ≡ q = cc in subst (λ (r : Row). r.standing ≡ Waiting) e refl
 root_waits (suc m) q h = absurd cc
 
-one_map : IsMap (first_row ∷ [])
+pub one_map : IsMap (first_row ∷ [])
 one_map =
     record {
       top = λ r h. let e : first_row ≡ r = cc in subst (λ (r : Row). (r.path ≡ []) × (r.head ≡ None)) e (refl, refl);

@@ -8,13 +8,13 @@ use Rattle.tree_cert.specs.declared.line.Head.{Head}
 use Rattle.tree_cert.specs.Tree.{Branch}
 use Rattle.tree_pool.specs.declared.node.Node.{Node}
 use Rattle.tree_pool.specs.Path.{IsEarlier}
-use Rattle.tree_pool.specs.Places.{children_from}
+use Rattle.tree_pool.specs.Lineages.{children_from}
 use Rattle.tree_pool.specs.Rows.{Standing, Waiting, Held, Quit, Shuts, Splits, Row, update, fill, after, NotSplit, IsMap, IsFirstWaiting, NoneWaits}
 use Rattle.tree_pool.specs.Lines.{all_lines}
 use Rattle.tree_pool.specs.Nodes.{standing_of, is_waiting, row_of, rows_of, AreInOrder, NoneBelow, IsFirstBelow, HaveOrderedCuts, IsPool, AreRows}
 use Rattle.tree_pool.specs.Calls.{HasOrderedCut, fresh_node, fresh_nodes, NodesPass, LastBefore}
-use Rattle.tree_pool.proofs.Lists.{updated_cases}
-use Rattle.tree_pool.proofs.Kept.{KeepsPlace, Becomes, source, origin, differs, within, map_updated, map_after}
+use Rattle.tree_pool.proofs.Lists.{updated_cases, there}
+use Rattle.tree_pool.proofs.RowChanges.{KeepsPlace, Becomes, source, origin, differs, map_updated, map_after}
 use Rattle.tree_pool.proofs.Paths.{earlier_trans}
 use Rattle.tree_pool.proofs.Totals.{splits_updated, splits_after, lines_after}
 use Rattle.tree_pool.proofs.NodeList.{length-rows, row_here, row_back, rows_set, rows_split, length-children}
@@ -100,8 +100,8 @@ all_before ps ns sized map order n r here (inr (i, p, last, lt, size, is)) m q a
     let b = length-rows ps ns sized in
     let c = slice_get_within rows n r here in
     let d = slice_get_within rows m q at in
-    let l = within rows last (omega arith) in
-    let u = within rows p (omega arith) in
+    let l = there rows last (omega arith) in
+    let u = there rows p (omega arith) in
     let lx = row_back ps ns last l.0 l.1 in
     let ux = row_back ps ns p u.0 u.1 in
     let lp : l.0.path ≡ i ∷ u.0.path = ap (λ (r : Row). r.path) lx.2 ∙ is ∙ ap (λ (r : Row). i ∷ r.path) (sym ux.2) in
@@ -252,7 +252,7 @@ first_found ps ns from io br ls pool k pass lt waits =
     let rows = rows_of ps ns in
     let lr = length-rows ps ns pool.sized in
     let none = none_from ps ns from k pool.none pass in
-    let q = within rows k (omega arith) in
+    let q = there rows k (omega arith) in
     let x = row_back ps ns k q.0 q.1 in
     record {
       row = q.0;

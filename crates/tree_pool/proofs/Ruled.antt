@@ -14,15 +14,11 @@ use Rattle.tree_pool.specs.Shown.{end_of, Work, work_of, works, IsBoxOf, AreChil
 use Rattle.tree_pool.specs.Rules.{after_steps, AreExpected, Boxes, IsChildAt, AreGiven, EndHolds, IsOf}
 use Rattle.tree_pool.specs.Nodes.{branch_of}
 use Rattle.tree_pool.specs.Laws.{ShownPass, EndFits, NewIsOf, StandingKeeps, GivingKeeps}
-use Rattle.tree_pool.proofs.Lists.{get_left, get_right, appended_cases, length-update}
-use Rattle.tree_pool.proofs.Kept.{KeepsPlace, Becomes, origin, moved, placed, within}
+use Rattle.tree_pool.proofs.Lists.{get_left, get_right, appended_cases, length-update, length-child_rows, to_map, there}
+use Rattle.tree_pool.proofs.RowChanges.{KeepsPlace, Becomes, origin, moved, placed}
 use Rattle.tree_pool.proofs.Shown.{work_at}
 
-length-child_rows : (path : List ℕ) (k : ℕ) (heads : List Head) → length (child_rows path k heads) ≡ length heads
-length-child_rows path k [] = refl
-length-child_rows path k (h ∷ heads) = ap suc (length-child_rows path (suc k) heads)
-
-holds_map : {A : Type 0} (o : Option A) (P Q : A → Type 0) → ((x : A) → P x → Q x) → Holds o P → Holds o Q
+pub holds_map : {A : Type 0} (o : Option A) (P Q : A → Type 0) → ((x : A) → P x → Q x) → Holds o P → Holds o Q
 holds_map None P Q f h = h
 holds_map (Some x) P Q f h = f x h
 
@@ -86,16 +82,11 @@ module _ (g : TreeRules) (rows : List Row) (paths : IsMap rows) (n : ℕ) (r : R
         number = ap length hs ∙ length-map kids (λ (k : Head × g.Box). k.0);
         expected = expected;
         each = λ k kid at.
-            let a : slice_get heads k ≡ Some kid.0 = subst (λ (l : List Head). slice_get l k ≡ Some kid.0) (sym hs) (mapped (λ (k : Head × g.Box). k.0) kids k kid at) in
-            let b : slice_get more k ≡ Some kid.1 = subst (λ (l : List g.Box). slice_get l k ≡ Some kid.1) (sym bs) (mapped (λ (k : Head × g.Box). k.1) kids k kid at) in
+            let a : slice_get heads k ≡ Some kid.0 = subst (λ (l : List Head). slice_get l k ≡ Some kid.0) (sym hs) (to_map (λ (k : Head × g.Box). k.0) kids k kid at) in
+            let b : slice_get more k ≡ Some kid.1 = subst (λ (l : List g.Box). slice_get l k ≡ Some kid.1) (sym bs) (to_map (λ (k : Head × g.Box). k.1) kids k kid at) in
             let z = placed rows paths n r here f heads becomes k kid.0 a in
             record { row = z.0; here = z.1; head = z.2.head_is; box = subst (λ (i : ℕ). slice_get (boxes ++ more) (i + k) ≡ Some kid.1) pool.count (get_right boxes more k ∙ b) };
       }
-    where
-      mapped : {A B : Type 0} (h : A → B) (xs : List A) (k : ℕ) (x : A) → slice_get xs k ≡ Some x → slice_get (map h xs) k ≡ Some (h x)
-      mapped h [] k x at = absurd cc
-      mapped h (y ∷ ys) zero x at = let e : y ≡ x = cc in ap (λ z. Some (h z)) e
-      mapped h (y ∷ ys) (suc k) x at = mapped h ys k x at
 
 -- ---- the calls
 
@@ -125,10 +116,11 @@ of_updated g root rows boxes paths pool n r b here there f keeps whole holds =
     (holds_map (after_steps g b (f r).steps) (λ c. EndHolds g rows boxes c (f r).standing) (λ c. EndHolds g (after rows n r.path f []) (boxes ++ []) c (f r).standing)
     (λ c h. end_kept g rows paths n r here f [] becomes boxes [] c (f r).standing h) holds)))
 
-box_there : (g : TreeRules) (root : g.Box) (rows : List Row) (boxes : Boxes g) → IsOf g root rows boxes → (n : ℕ) (r : Row) → slice_get rows n ≡ Some r → (b : g.Box) × (slice_get boxes n ≡ Some b)
-box_there g root rows boxes pool n r here = within boxes n (let a = slice_get_within rows n r here in let b = pool.count in omega arith)
+pub box_there : (g : TreeRules) (root : g.Box) (rows : List Row) (boxes : Boxes g) → IsOf g root rows boxes → (n : ℕ) (r : Row) → slice_get rows n ≡ Some r → (b : g.Box) × (slice_get boxes n ≡ Some b)
+box_there g root rows boxes pool n r here = there boxes n (let a = slice_get_within rows n r here in let b = pool.count in omega arith)
 
-unsplit : (s : Standing) → (s ≡ Waiting) ⊎ (s ≡ Held) → NotSplit s
+-- a box that waits or is held isn't split
+pub unsplit : (s : Standing) → (s ≡ Waiting) ⊎ (s ≡ Held) → NotSplit s
 unsplit s (inl e) f first count k = cc
 unsplit s (inr e) f first count k = cc
 
@@ -222,7 +214,7 @@ module _ (g : TreeRules) (root : g.Box) (rows : List Row) (paths : IsMap rows) (
 
 pub shown_pass : (g : TreeRules) → ShownPass g
 shown_pass g root rows boxes paths pool t shows =
-    let q = within rows 0 paths.some in
+    let q = there rows 0 paths.some in
     let top = paths.top q.0 q.1 in
     let found : works rows [] ≡ Some (work_of q.0) = subst (λ (p : List ℕ). works rows p ≡ Some (work_of q.0)) top.0 (work_at rows paths 0 q.0 q.1) in
     let shown = subst (λ (o : Option Work). Holds o (λ x. IsBoxOf (works rows) [] x.steps x.end t)) found shows in

@@ -7,10 +7,9 @@ use Rattle.tree_cert.proofs.Options.{holds_some, some_holds}
 use Rattle.tree_pool.specs.Rows.{Row, row_at, IsMap}
 use Rattle.tree_pool.specs.Shown.{Work, Opens, end_of, work_of, works, IsBoxOf, Shows, NoneOpen}
 use Rattle.tree_pool.specs.Laws.{ShowOneTree, IsWholeWhereNoneOpen, WorksDecide}
-use Rattle.tree_pool.proofs.Lists.{stands}
-use Rattle.tree_pool.proofs.Kept.{within}
+use Rattle.tree_pool.proofs.Lists.{stands, there}
 use Rattle.tree_pool.proofs.Shown.{agree, one_box, work_at}
-use Rattle.tree_pool.proofs.Whole.{shown, closed, none_open}
+use Rattle.tree_pool.proofs.WholeTrees.{shown, closed, none_open}
 
 pub works_decide : WorksDecide
 works_decide v w same t shows =
@@ -20,7 +19,7 @@ works_decide v w same t shows =
 module _ (rows : List Row) (map : IsMap rows) where
   root_work : (q : Row) × (slice_get rows 0 ≡ Some q) × (works rows [] ≡ Some (work_of q))
   root_work =
-      let q = within rows 0 map.some in
+      let q = there rows 0 map.some in
       let top = map.top q.0 q.1 in
       (q.0, q.1, subst (λ (p : List ℕ). works rows p ≡ Some (work_of q.0)) top.0 (work_at rows map 0 q.0 q.1))
 

@@ -6,8 +6,8 @@ use Rattle.tree_cert.specs.TreeRules.{Holds}
 use Rattle.tree_cert.proofs.Options.{holds_some, some_holds}
 use Rattle.tree_pool.specs.Rows.{Row, Held, IsFirstWaiting, update, stand, child_rows, after}
 use Rattle.tree_pool.specs.Calls.{IsHeld}
-use Rattle.tree_pool.proofs.Lists.{get_updated, get_other, get_left, length-update}
-use Rattle.tree_pool.proofs.Kept.{differs}
+use Rattle.tree_pool.proofs.Lists.{get_updated, get_other, get_left, length-update, length-child_rows}
+use Rattle.tree_pool.proofs.RowChanges.{differs}
 
 pub held_now : (rows : List Row) (n : ℕ) → IsFirstWaiting rows n → IsHeld (update rows n (stand Held)) n
 held_now rows n first = some_holds (slice_get (update rows n (stand Held)) n) (λ r. r.standing ≡ Held) (stand Held first.row) (get_updated rows n (stand Held) first.row first.here) refl
@@ -26,10 +26,6 @@ pub held_after : (rows : List Row) (n m : ℕ) (path : List ℕ) (f : Row → Ro
 held_after rows n m path f heads ne held =
     let h = holds_some (slice_get (update rows n f) m) (λ r. r.standing ≡ Held) (held_other rows n m f ne held) in
     some_holds (slice_get (after rows n path f heads) m) (λ r. r.standing ≡ Held) h.0 (get_left (update rows n f) (child_rows path 0 heads) m h.0 h.1) h.2
-
-pub length-child_rows : (path : List ℕ) (k : ℕ) (heads : List Head) → length (child_rows path k heads) ≡ length heads
-length-child_rows path k [] = refl
-length-child_rows path k (h ∷ heads) = ap suc (length-child_rows path (suc k) heads)
 
 pub length-after : (rows : List Row) (n : ℕ) (path : List ℕ) (f : Row → Row) (heads : List Head) → length (after rows n path f heads) ≡ length rows + length heads
 length-after rows n path f heads =

@@ -73,7 +73,7 @@ splits_updated rows n r f here before whole =
     let c = not_split (f r).standing whole in
     omega arith
 
-splits_children : (path : List ℕ) (k : ℕ) (heads : List Head) → splits (child_rows path k heads) ≡ 0
+pub splits_children : (path : List ℕ) (k : ℕ) (heads : List Head) → splits (child_rows path k heads) ≡ 0
 splits_children path k [] = refl
 splits_children path k (h ∷ heads) = let e = splits_children path (suc k) heads in omega arith
 

@@ -3,7 +3,7 @@ pub mod Rows
 pub mod Shown
 pub mod Rules
 pub mod Order
-pub mod Places
+pub mod Lineages
 pub mod Lines
 pub mod Nodes
 pub mod Calls

@@ -1,5 +1,5 @@
 // What holds of pools by any rules, on functions that do nothing.
-ghost use Rattle.tree_pool.specs.Laws.{WorksDecide, ShownPass, NewIsOf, StandingKeeps, GivingKeeps};
+ghost use Rattle.tree_pool.specs.Laws.{WorksDecide, StandingLeavesWorks, GivingSetsWork, GivingAddsChildren, GivingLeavesOthers, ShownPass, NewIsOf, StandingKeeps, GivingKeeps};
 
 use tree_cert::Rules;
 
@@ -7,6 +7,16 @@ use tree_cert::Rules;
 /// boxes have.
 pub fn works_decide()
     ensures { WorksDecide }
+{}
+
+/// Taking a box and losing it leave what was given back at each path. Giving work back sets it at the path of its box, puts
+/// the children below that path, and leaves it at each other path. So the tree depends on the works alone that were given
+/// back at each path, in whatever order they came.
+pub fn works_follow_calls()
+    ensures standing { StandingLeavesWorks }
+    ensures own { GivingSetsWork }
+    ensures children { GivingAddsChildren }
+    ensures others { GivingLeavesOthers }
 {}
 
 /// The tree that a pool of rules and a root shows passes at that root.

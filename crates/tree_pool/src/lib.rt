@@ -2,14 +2,11 @@
 #![tactic(auto)]
 
 mod laws;
+mod lineage;
 mod node;
-mod places;
 mod pool;
 mod walk;
 
-pub use laws::{pools_keep_rules, shown_trees_pass, works_decide};
+pub use laws::{pools_keep_rules, shown_trees_pass, works_decide, works_follow_calls};
 pub use node::{BranchBy, Work, WorkEnd};
-pub use pool::Pool;
-
-#[cfg(test)]
-mod tests;
+pub use pool::TreePool;

@@ -2,7 +2,7 @@
 ghost use Rattle.std.specs.Prelude.{◌≡◌, IfOk};
 ghost use Rattle.tree_pool.specs.Nodes.{standing_of, children_count, is_waiting};
 
-use gas_model::{List, NoMemory, Var};
+use base_types::{List, NoMemory, Var};
 use std::alloc::Global;
 use tree_cert::{Closing, Head, Line, Step};
 

@@ -9,12 +9,12 @@ ghost use Rattle.tree_pool.specs.Shown.{works, Shows};
 ghost use Rattle.tree_cert.specs.Tree.{Tree, tree_lines};
 ghost use Rattle.tree_cert.specs.Spelling.{has_ordered_cut, AreLines};
 
+use crate::lineage::Lineage;
 use crate::node::{
     BranchBy, Node, Standing, Work, WorkEnd, count_children, fill_node, set_standing, waits,
 };
-use crate::places::Places;
 use crate::walk::{count_lines, next_box, put_boxes};
-use gas_model::{Bytes, List, NoMemory};
+use base_types::{Bytes, List, NoMemory};
 use std::alloc::Global;
 use std::cmp::Ordering;
 use std::marker::Model;
@@ -23,8 +23,8 @@ use tree_cert::{Head, Line, Step, write_line};
 /// A pool of the boxes of a tree, each with a number. Contracts see the list of its boxes by number, each with its path,
 /// which is the list of child numbers from the box up to the root; the root has number 0.
 #[derive(Drop)]
-pub struct Pool {
-    places: Places,
+pub struct TreePool {
+    places: Lineage,
     nodes: Vec<Node>,
     /// No box below it waits.
     from: usize,
@@ -35,7 +35,7 @@ pub struct Pool {
     lines: u64,
 }
 
-impl Model for Pool {
+impl Model for TreePool {
     ghost use Rattle.std.specs.Prelude.{List as ListOf};
     ghost use Rattle.tree_pool.specs.Rows.{Row};
 
@@ -72,7 +72,7 @@ fn next_waiting(nodes: &[Node], from: usize) -> usize
 }
 
 /// The first waiting node up to node i, which `best` is up to the one before.
-fn better(places: &Places, nodes: &[Node], best: usize, i: usize) -> usize
+fn better(places: &Lineage, nodes: &[Node], best: usize, i: usize) -> usize
     requires sized { length places.now ≡ length nodes.now }
     requires within { i < length nodes.now }
     requires small { length nodes.now < 2 ^ 32 }
@@ -93,7 +93,7 @@ fn better(places: &Places, nodes: &[Node], best: usize, i: usize) -> usize
 }
 
 /// The number of the first waiting node in breadth-first order, where this one waits and none before it.
-fn earliest(places: &Places, nodes: &[Node], in_order: bool, from: usize) -> usize
+fn earliest(places: &Lineage, nodes: &[Node], in_order: bool, from: usize) -> usize
     requires sized { length places.now ≡ length nodes.now }
     requires small { length nodes.now < 2 ^ 32 }
     requires apart { IsMap (rows_of places.now nodes.now) }
@@ -115,7 +115,7 @@ fn earliest(places: &Places, nodes: &[Node], in_order: bool, from: usize) -> usi
 
 /// Whether numbers still ascend in breadth-first order once a node, of so many, has children: the last node is the root, or
 /// stands below a node before this one.
-fn stays_in_order(in_order: bool, places: &Places, count: u32, id: u32) -> bool
+fn stays_in_order(in_order: bool, places: &Lineage, count: u32, id: u32) -> bool
     requires count { count ≡ length places.now }
     requires within { id < length places.now }
     ensures { result ≡ true → (in_order ≡ true) × LastBefore places.now id }
@@ -184,14 +184,14 @@ fn more_lines(lines: u64, steps: usize, children: u32) -> Result<u64, NoMemory>
     Ok(all)
 }
 
-impl Pool {
+impl TreePool {
     /// A pool of the root's box alone, waiting.
-    pub fn new(alloc: Global) -> Result<Pool, NoMemory>
+    pub fn new(alloc: Global) -> Result<TreePool, NoMemory>
         ensures { IfOk result (λ pool. pool ≡ first_row ∷ []) }
     {
-        let places = Places::new(alloc)?;
+        let places = Lineage::new(alloc)?;
         let nodes = root_nodes(alloc)?;
-        let pool = Pool {
+        let pool = TreePool {
             places,
             nodes,
             from: 0,

@@ -12,9 +12,9 @@ ghost use Rattle.std.specs.List.{flat_map, list_all};
 ghost use Rattle.tree_cert.specs.Tree.{branch_line};
 ghost use Rattle.tree_cert.specs.Spelling.{spelling, is_spelled};
 
+use crate::lineage::Lineage;
 use crate::node::{BranchBy, Node, Standing, count_children};
-use crate::places::Places;
-use gas_model::{Bytes, List, NoMemory};
+use base_types::{Bytes, List, NoMemory};
 use std::alloc::Global;
 use tree_cert::{Closing, Head, Line, Step, write_line};
 
@@ -46,7 +46,7 @@ fn has_later(nth: u32, count: u32) -> bool
 }
 
 /// The box after one and all that is below it.
-fn after_box(places: &Places, nodes: &[Node], n: u32) -> Option<u32>
+fn after_box(places: &Lineage, nodes: &[Node], n: u32) -> Option<u32>
     requires rows { AreRows places.now nodes.now }
     requires within { n < length nodes.now }
     ensures { IsAfter places.now nodes.now n result }
@@ -65,7 +65,7 @@ fn after_box(places: &Places, nodes: &[Node], n: u32) -> Option<u32>
 }
 
 /// The next box.
-pub fn next_box(places: &Places, nodes: &[Node], n: u32) -> Option<u32>
+pub fn next_box(places: &Lineage, nodes: &[Node], n: u32) -> Option<u32>
     requires rows { AreRows places.now nodes.now }
     requires within { n < length nodes.now }
     ensures { IsNext places.now nodes.now n result }
@@ -87,7 +87,7 @@ fn count_own(node: &Node) -> u64
 }
 
 /// How many lines the text of the boxes has from this one on.
-pub fn count_lines(places: &Places, nodes: &[Node], next: Option<u32>) -> u64
+pub fn count_lines(places: &Lineage, nodes: &[Node], next: Option<u32>) -> u64
     requires rows { AreRows places.now nodes.now }
     requires within { IfSome next (λ n. n < length nodes.now) }
     requires few { all_lines (rows_of places.now nodes.now) < 2 ^ 64 }
@@ -193,7 +193,7 @@ fn put_box(alloc: Global, node: &Node, out: &mut Bytes) -> Result<(), NoMemory>
 /// Adds the lines of all boxes at the end, in the order of the text.
 pub fn put_boxes(
     alloc: Global,
-    places: &Places,
+    places: &Lineage,
     nodes: &[Node],
     out: &mut Bytes,
 ) -> Result<(), NoMemory>

@@ -1,5 +1,5 @@
 use Rattle.std.proofs.Common.{sym, ap, ◌∙◌, subst, ◌≤◌, List, length}
-use Rattle.gas_model.specs.declared.rows.Var.{Var}
+use Rattle.base_types.specs.declared.variables.Var.{Var}
 use Rattle.box_split.specs.Forks.{AreVars}
 use Rattle.box_split.specs.Parts.{halving}
 use Rattle.box_split.proofs.Others.{fork_halving}

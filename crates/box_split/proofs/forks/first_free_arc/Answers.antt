@@ -1,6 +1,6 @@
 use Rattle.std.proofs.Common.{◌≡◌, length, ◌<◌, below_more, sym, ap, ◌∙◌, arith, is_none, not}
 use Rattle.topo.specs.States.{fixed_at}
-use Rattle.topo.proofs.Fixed.{fixed_at_row}
+use Rattle.topo.proofs.FixedStates.{fixed_at_row}
 use Rattle.box_split.proofs.Firsts.{first_some, first_none}
 use Rattle.box_split.proofs.forks.first_free_arc.Goals as goal
 

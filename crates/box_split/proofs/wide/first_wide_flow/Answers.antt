@@ -1,5 +1,5 @@
 use Rattle.std.proofs.Common.{length, ◌<◌, sym, ap, ◌∙◌, arith}
-use Rattle.gas_model.specs.declared.rows.Var.TheVariants.{Flow}
+use Rattle.base_types.specs.declared.variables.Var.TheVariants.{Flow}
 use Rattle.box_split.specs.Forks.{is_wide}
 use Rattle.box_split.proofs.Firsts.{first_some, first_none}
 use Rattle.box_split.proofs.wide.first_wide_flow.Goals as goal

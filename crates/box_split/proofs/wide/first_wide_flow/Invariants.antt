@@ -1,5 +1,5 @@
 use Rattle.std.proofs.Common.{◌≡◌, ◌<◌, ℕ, false}
-use Rattle.gas_model.specs.declared.rows.Var.TheVariants.{Flow}
+use Rattle.base_types.specs.declared.variables.Var.TheVariants.{Flow}
 use Rattle.box_split.specs.Forks.{is_wide}
 use Rattle.box_split.proofs.wide.first_wide_flow.Given as goal
 

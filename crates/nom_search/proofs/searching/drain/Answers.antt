@@ -1,6 +1,6 @@
 use Rattle.std.proofs.Common.{ℕ, Option, sym, subst, arith, pos}
 use Rattle.search_order.specs.Searches.{FirstQuit}
-use Rattle.nom_search.proofs.Drained.{done_is, least_is, full_is, held, taken_length, taken_splits, taken_fits, taken_stable, taken_origin, shrinks, quits_not, quits_left, searched_on, stopped, searched_still, stopped_still, taken_still, rows_still, carried_is}
+use Rattle.nom_search.proofs.Drained.{done_is, least_is, full_is, held, taken_length, taken_splits, taken_fits, taken_stable, taken_origin, shrinks, quits_not, quits_left, searched_on, stopped}
 use Rattle.nom_search.proofs.searching.drain.Goals as goal
 
 pub work_box-requires-clause-held : goal.work_box-requires-clause-held
@@ -45,6 +45,7 @@ loop-id-preserved-in-Done c =
       within = s.1;
       room = (let a = c.loop-id.invariant.room in let b = s.2 in omega arith);
       first = quits_not c.args.p.now c.requires.problem (pos c.args.tol) c.args.boxes c.loop-id.pool c.take.new.self c.in-Some.id c.in-Some.ensures.some.0 c.in-Some.ensures.some.1 c.take.ensures.origins c.requires.searched.0 now c.work_box.new.pool d.0 d.2 d.1 c.loop-id.first c.loop-id.invariant.first;
+      whole = λ root h. c.work_box.ensures.keeps root (c.take.ensures.keeps c.args.p.now root (c.loop-id.invariant.whole root h));
       kept = λ root h. searched_on c.args.p.now c.requires.problem (pos c.args.tol) c.args.boxes c.loop-id.pool c.take.new.self c.in-Some.id c.in-Some.ensures.some.0 c.in-Some.ensures.some.1 c.take.ensures.origins root (c.loop-id.invariant.kept root h) c.work_box.new.pool d.0 d.2;
     }
 
@@ -65,6 +66,7 @@ loop-id-preserved c =
       first =
           subst (λ (o : Option ℕ). FirstQuit c.work_box.new.pool.rows o) (sym c.or-first.ensures)
           (quits_left c.args.p.now c.requires.problem (pos c.args.tol) c.args.boxes c.loop-id.pool c.take.new.self c.in-Some.id c.in-Some.ensures.some.0 c.in-Some.ensures.some.1 c.take.ensures.origins c.requires.searched.0 now c.work_box.new.pool w c.loop-id.first c.loop-id.invariant.first);
+      whole = λ root h. c.work_box.ensures.keeps root (c.take.ensures.keeps c.args.p.now root (c.loop-id.invariant.whole root h));
       kept = λ root h. searched_on c.args.p.now c.requires.problem (pos c.args.tol) c.args.boxes c.loop-id.pool c.take.new.self c.in-Some.id c.in-Some.ensures.some.0 c.in-Some.ensures.some.1 c.take.ensures.origins root (c.loop-id.invariant.kept root h) c.work_box.new.pool _ w;
     }
 
@@ -73,21 +75,14 @@ returns-in-Full-clause-ends c = λ root h.
     stopped c.args.p.now c.requires.problem (pos c.args.tol) c.args.boxes c.loop-id.pool c.take.new.self c.in-Some.id c.in-Some.ensures.some.0 c.in-Some.ensures.some.1 c.take.ensures.origins root (c.loop-id.invariant.kept root h) c.work_box.new.pool
     (full_is c.args.p.now (pos c.args.tol) c.args.boxes c.take.new.self c.work_box.new.pool c.in-Some.id c.in_ok-work_box.field-0 c.in-Full.is c.in_ok-work_box.ensures.turn)
 
-pub returns-in-Full-clause-still : goal.returns-in-Full-clause-still
-returns-in-Full-clause-still c = λ root h.
-    stopped_still c.args.p.now (pos c.args.tol) root c.args.boxes c.work_box.new.pool c.in-Some.id
-    (stopped c.args.p.now c.requires.problem (pos c.args.tol) c.args.boxes c.loop-id.pool c.take.new.self c.in-Some.id c.in-Some.ensures.some.0 c.in-Some.ensures.some.1 c.take.ensures.origins root (c.loop-id.invariant.kept root h) c.work_box.new.pool
-    (full_is c.args.p.now (pos c.args.tol) c.args.boxes c.take.new.self c.work_box.new.pool c.in-Some.id c.in_ok-work_box.field-0 c.in-Full.is c.in_ok-work_box.ensures.turn))
+pub returns-in-Full-clause-keeps : goal.returns-in-Full-clause-keeps
+returns-in-Full-clause-keeps c = λ root h. c.work_box.ensures.keeps root (c.take.ensures.keeps c.args.p.now root (c.loop-id.invariant.whole root h))
 
-pub returns-in_err-work_box-clause-still : goal.returns-in_err-work_box-clause-still
-returns-in_err-work_box-clause-still c = λ root h.
-    taken_still c.args.p.now (pos c.args.tol) root c.args.boxes c.loop-id.pool c.take.new.self c.work_box.new.pool c.in-Some.id (c.loop-id.invariant.kept root h) c.in-Some.ensures.some.0 c.in-Some.ensures.some.1 c.in_err-work_box.ensures.turn
+pub returns-in_err-work_box-clause-keeps : goal.returns-in_err-work_box-clause-keeps
+returns-in_err-work_box-clause-keeps c = λ root h. c.work_box.ensures.keeps root (c.take.ensures.keeps c.args.p.now root (c.loop-id.invariant.whole root h))
 
-pub returns-in-Carried-clause-still : goal.returns-in-Carried-clause-still
-returns-in-Carried-clause-still c = λ root h.
-    taken_still c.args.p.now (pos c.args.tol) root c.args.boxes c.loop-id.pool c.take.new.self c.work_box.new.pool c.in-Some.id (c.loop-id.invariant.kept root h) c.in-Some.ensures.some.0 c.in-Some.ensures.some.1
-    (carried_is c.args.p.now (pos c.args.tol) c.args.boxes c.take.new.self c.work_box.new.pool c.in-Some.id c.in_ok-work_box.field-0 c.in-Carried.setting c.in-Carried.is c.in_ok-work_box.ensures.turn).2
+pub returns-in-Carried-clause-keeps : goal.returns-in-Carried-clause-keeps
+returns-in-Carried-clause-keeps c = λ root h. c.work_box.ensures.keeps root (c.take.ensures.keeps c.args.p.now root (c.loop-id.invariant.whole root h))
 
-pub returns-clause-still : goal.returns-clause-still
-returns-clause-still c = λ root h.
-    rows_still c.args.p.now root c.loop-id.pool c.take.new.self (searched_still c.args.p.now (pos c.args.tol) root c.args.boxes c.loop-id.pool (c.loop-id.invariant.kept root h)) c.in_default.ensures.none.1
+pub returns-clause-keeps : goal.returns-clause-keeps
+returns-clause-keeps c = λ root h. c.take.ensures.keeps c.args.p.now root (c.loop-id.invariant.whole root h)

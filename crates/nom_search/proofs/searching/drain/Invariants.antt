@@ -3,7 +3,8 @@ use Rattle.tree_rules.specs.Rules.{PartBox}
 use Rattle.tree_pool.specs.Rows.{splits}
 use Rattle.search_order.specs.Searches.{FirstQuit}
 use Rattle.search_order.specs.Turns.{remains}
-use Rattle.nom_search.specs.Kept.{AreTools}
+use Rattle.box_pool.specs.PoolOf.{IsPoolOf}
+use Rattle.nom_search.specs.LastChoices.{AreTools}
 use Rattle.nom_search.specs.Searched.{IsSearched}
 use Rattle.nom_search.proofs.searching.drain.Given as goal
 
@@ -13,6 +14,7 @@ invariant-loop-id l = record {
   within : splits l.pool.rows ≤ l.boxes;
   room : length l.pool.rows + 1024 * (l.boxes - splits l.pool.rows) + 1024 < 2 ^ 32;
   first : FirstQuit l.pool.rows l.first;
+  whole : (root : PartBox) → IsPoolOf l.p root l.fn.pool → IsPoolOf l.p root l.pool;
   kept : (root : PartBox) → IsSearched l.p (pos l.tol) root l.boxes l.fn.pool → IsSearched l.p (pos l.tol) root l.boxes l.pool;
 }
 

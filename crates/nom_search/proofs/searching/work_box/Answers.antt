@@ -15,4 +15,4 @@ pub branch_box-requires-clause-origin : goal.branch_box-requires-clause-origin
 branch_box-requires-clause-origin c = seen_leads c.args.p.now c.args.pool.now c.args.id c.in_ok-view.field-0 c.in-Some.view c.settled.new.view c.in_ok-steps.steps c.in_ok-steps.end c.in-Some.is c.in_ok-view.ensures c.in_ok-steps.ensures.settled
 
 pub returns-in-Shut-clause-turn : goal.returns-in-Shut-clause-turn
-returns-in-Shut-clause-turn c = c.shut_box.ensures (pos c.args.tol)
+returns-in-Shut-clause-turn c = c.shut_box.ensures.turn (pos c.args.tol)

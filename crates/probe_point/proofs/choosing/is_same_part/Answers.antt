@@ -3,9 +3,9 @@ use Rattle.std.proofs.Common.{◌≡◌, sym, ap, ◌∙◌, rules}
 use Rattle.std.specs.Bool.{Decides}
 use Rattle.std.specs.Cmp.{unsigned_Decides}
 use Rattle.std.proofs.lemmas.Slice.Eq.{slice_eq-Decides}
-use Rattle.gas_model.specs.declared.rows.ArcState.{ArcState}
+use Rattle.base_types.specs.declared.states.ArcState.{ArcState}
 use Rattle.gas_model.specs.declared.rows.PartState.{PartState}
-use Rattle.gas_model.specs.contracts.rows.ArcState.{the_type}
+use Rattle.base_types.specs.contracts.states.ArcState.{the_type}
 use Rattle.probe_point.proofs.PartFacts.{option_decides, same_part}
 use Rattle.probe_point.proofs.choosing.is_same_part.Goals as goal
 

@@ -1,6 +1,6 @@
 use Rattle.std.proofs.Common.{rules, ◌≡◌, length, sym, ◌∙◌, subst, FitsSigned, to_z-of_z}
 use Rattle.std.specs.Int.{w128}
-use Rattle.probe_point.specs.Probes.{box_at, AreEnds}
+use Rattle.probe_point.specs.Probes.{box_at, AreGraphEnds}
 use Rattle.probe_point.proofs.ChordFacts.{given_step}
 use Rattle.probe_point.proofs.chords.chord_flows.Goals as goal
 
@@ -14,4 +14,4 @@ loop-chord-preserved c =
     let e1 = simp to_z-of_z at c.give.ensures.flows in
     let e2 = simp to_z-of_z at c.give.ensures.need in
     given_step c.args.arcs.now (box_at c.args.boxes.now) c.args.chords.now c.args.flows.now c.loop-chord.flows c.give.new.flows c.args.need.now c.loop-chord.need c.give.new.need c.loop-chord.chord-index x c.requires.chords
-    (subst (AreEnds c.args.arcs.now) (sym size) c.requires.ends) (long ∙ c.requires.flow_of_each) c.loop-chord-test.true c.chord_flow-flow.ensures.value c.chord_flow-flow.ensures.size e1 e2 s
+    (subst (AreGraphEnds c.args.arcs.now) (sym size) c.requires.ends) (long ∙ c.requires.flow_of_each) c.loop-chord-test.true c.chord_flow-flow.ensures.value c.chord_flow-flow.ensures.size e1 e2 s

@@ -3,7 +3,7 @@ use Rattle.std.specs.Int.{w128}
 use Rattle.std.specs.Prelude.{slice_index_or}
 use Rattle.std.proofs.lemmas.List.{length_push}
 use Rattle.gas_model.specs.declared.rows.Ends.{Ends}
-use Rattle.gas_model.specs.declared.rows.Var.TheVariants as var
+use Rattle.base_types.specs.declared.variables.Var.TheVariants as var
 use Rattle.gas_model.specs.Boxes.{no_ends}
 use Rattle.gas_model.specs.BoxLimits.{AreSquareEnds}
 use Rattle.probe_point.specs.Hulls.{IsHull}

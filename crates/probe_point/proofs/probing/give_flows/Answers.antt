@@ -4,7 +4,7 @@ use Rattle.gas_model.specs.declared.rows.Ends.{Ends}
 use Rattle.gas_model.specs.Rows.{Network}
 use Rattle.gas_model.specs.Near.{number_at}
 use Rattle.topo.specs.Shapes.{Layout}
-use Rattle.probe_point.specs.Probes.{box_at, AreEnds, AreNeeds, HasTreeFlows, KeepsOthers}
+use Rattle.probe_point.specs.Probes.{box_at, AreGraphEnds, AreNeeds, HasTreeFlows, KeepsOthers}
 use Rattle.probe_point.specs.Chords.{HasMiddles, KeepsTheRest}
 use Rattle.probe_point.specs.Points.{middle_supply}
 use Rattle.probe_point.proofs.ShapeFacts.{ends_within, few_chords, few_steps}
@@ -23,7 +23,7 @@ tree_flows-requires-clause-ends c =
     let is = ap length c.requires.need in
     let mapped = length-map nodes middle_supply in
     let count : length nodes ≡ length c.chord_flows.new.need = omega arith in
-    rw c.arcs-arcs.ensures.rows (subst (AreEnds c.args.p.now.arcs) count (ends_within c.args.p.now c.arcs-arcs.ensures.within))
+    rw c.arcs-arcs.ensures.rows (subst (AreGraphEnds c.args.p.now.arcs) count (ends_within c.args.p.now c.arcs-arcs.ensures.within))
 
 pub tree_flows-requires-clause-short : goal.tree_flows-requires-clause-short
 tree_flows-requires-clause-short c =

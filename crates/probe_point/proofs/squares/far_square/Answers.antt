@@ -1,6 +1,6 @@
 use Rattle.std.proofs.Common.{rules, sym, subst, ℤ, IsTrue, FitsSigned, to_z-of_z}
 use Rattle.std.specs.Int.{w128}
-use Rattle.gas_model.specs.Limits.{is_square}
+use Rattle.base_types.specs.Numbers.{is_square}
 use Rattle.probe_point.proofs.Picks.{nearest_square}
 use Rattle.probe_point.proofs.squares.far_square.Goals as goal
 

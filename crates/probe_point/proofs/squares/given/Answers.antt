@@ -1,6 +1,6 @@
 use Rattle.std.proofs.Common.{rules, sym, subst, FitsSigned, to_z-of_z}
 use Rattle.std.specs.Int.{w128}
-use Rattle.gas_model.specs.declared.rows.ArcState.{ArcState}
+use Rattle.base_types.specs.declared.states.ArcState.{ArcState}
 use Rattle.gas_model.specs.Laws.{form_of}
 use Rattle.probe_point.specs.Squares.{IsGiven}
 use Rattle.probe_point.proofs.squares.given.Goals as goal

@@ -4,12 +4,12 @@ use Rattle.stable_sweep.proofs.Sweeps.{turn, falls_more, settled_more, step_insi
 use Rattle.stable_sweep.proofs.sweep.settle_law.Goals as goal
 
 pub tighten-requires-clause-var : goal.tighten-requires-clause-var
-tighten-requires-clause-var g c = step_inside _ _ _ _ _ c.steps.invariant.bounds c.in-Some-first_step.ensures
+tighten-requires-clause-var g c = step_inside _ _ _ _ _ c.steps.invariant.bounds c.in-Some-first_step.ensures.move
 
 pub tighten-requires-clause-value : goal.tighten-requires-clause-value
 tighten-requires-clause-value g c =
     let fits : FitsSigned w128 c.in-Some-first_step.step.value = search rules in
-    simp to_z-of_z (step_within _ _ _ _ _ c.in-Some-first_step.ensures)
+    simp to_z-of_z (step_within _ _ _ _ _ c.in-Some-first_step.ensures.move)
 
 pub is_empty-requires : goal.is_empty-requires
 is_empty-requires g c =

@@ -1,6 +1,6 @@
 use Rattle.std.proofs.Common.{◌≡◌, length, arith}
 use Rattle.std.proofs.lemmas.Option.{slice_get_within}
-use Rattle.tree_pool.proofs.Boxes.{node_at}
+use Rattle.tree_pool.proofs.NextBoxes.{node_at}
 use Rattle.tree_pool.proofs.Earliest.{pass_more}
 use Rattle.tree_pool.proofs.pool.next_waiting.Goals as goal
 

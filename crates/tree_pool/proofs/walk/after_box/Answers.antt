@@ -1,5 +1,5 @@
 use Rattle.std.proofs.Common.{◌++◌, ◌∷◌, [], refl, arith}
-use Rattle.tree_pool.proofs.Boxes.{goes_at, climbs_at, above_at, next_fits, ends_at_root}
+use Rattle.tree_pool.proofs.NextBoxes.{goes_at, climbs_at, above_at, next_fits, ends_at_root}
 use Rattle.tree_pool.proofs.walk.after_box.Goals as goal
 
 pub loop-n-init : goal.loop-n-init

@@ -2,7 +2,7 @@ use Rattle.std.proofs.Common.{◌≡◌, Option, sym, subst}
 use Rattle.tree_cert.specs.TreeRules.{Holds}
 use Rattle.tree_pool.specs.declared.node.Node.{Node}
 use Rattle.tree_pool.specs.Nodes.{children_count, standing_of}
-use Rattle.tree_pool.proofs.Boxes.{node_at}
+use Rattle.tree_pool.proofs.NextBoxes.{node_at}
 use Rattle.tree_pool.proofs.walk.count_at.Goals as goal
 
 pub returns : goal.returns

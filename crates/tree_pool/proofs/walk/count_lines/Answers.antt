@@ -2,7 +2,7 @@ use Rattle.std.proofs.Common.{◌<◌, Option, ℕ, length, subst, arith}
 use Rattle.std.specs.Prelude.{IfSome}
 use Rattle.tree_pool.specs.Nodes.{rows_of}
 use Rattle.tree_pool.proofs.Ahead.{ahead_few}
-use Rattle.tree_pool.proofs.Boxes.{counts_begin, counts_on, size_ahead, size_small}
+use Rattle.tree_pool.proofs.NextBoxes.{counts_begin, counts_on, size_ahead, size_small}
 use Rattle.tree_pool.proofs.walk.count_lines.Goals as goal
 
 pub boxes-init : goal.boxes-init

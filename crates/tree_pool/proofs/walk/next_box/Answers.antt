@@ -1,4 +1,4 @@
-use Rattle.tree_pool.proofs.Boxes.{next_down, next_on}
+use Rattle.tree_pool.proofs.NextBoxes.{next_down, next_on}
 use Rattle.tree_pool.proofs.walk.next_box.Goals as goal
 
 pub returns-in-Some : goal.returns-in-Some

@@ -1,6 +1,6 @@
 use Rattle.std.proofs.Common.{◌<◌, Option, ℕ, length, subst, arith}
 use Rattle.std.specs.Prelude.{IfSome}
-use Rattle.tree_pool.proofs.Boxes.{writes_begin, writes_on, size_ahead, cut_of, some_node}
+use Rattle.tree_pool.proofs.NextBoxes.{writes_begin, writes_on, size_ahead, cut_of, some_node}
 use Rattle.tree_pool.proofs.walk.put_boxes.Goals as goal
 
 pub boxes-init : goal.boxes-init

@@ -1,5 +1,5 @@
 use Rattle.std.proofs.Common.{List, ℕ}
-use Rattle.gas_model.specs.declared.rows.ArcState.{ArcState}
+use Rattle.base_types.specs.declared.states.ArcState.{ArcState}
 use Rattle.gas_model.specs.Rows.{Network}
 use Rattle.topo.specs.Shapes.{Layout, IsShapeOf}
 use Rattle.probe_point.specs.Chosen.{with_picks, all_chosen, AreChosen}

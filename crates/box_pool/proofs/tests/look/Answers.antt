@@ -1,9 +1,0 @@
-use Rattle.std.proofs.Common.{subst}
-use Rattle.std.specs.Prelude.{Option}
-use Rattle.box_pool.specs.declared.spot.BoxView.{BoxView}
-use Rattle.box_pool.specs.Pools.{Looks}
-use Rattle.box_pool.proofs.StillFits.{seen_fits}
-use Rattle.box_pool.proofs.tests.look.Goals as goal
-
-pub returns : goal.returns
-returns c = seen_fits c.args.p.now c.args.pool.now c.args.n c.in-Some.view c.requires.fits (subst (λ (o : Option BoxView). Looks c.args.p.now c.args.pool.now c.args.n o) c.in-Some.is c.in_ok-view.ensures)

@@ -1,5 +1,0 @@
-use Rattle.probe_point.proofs.OnlyOne.{one_probe}
-use Rattle.probe_point.proofs.laws.one_probe.Goals as goal
-
-pub returns : goal.returns
-returns c = one_probe

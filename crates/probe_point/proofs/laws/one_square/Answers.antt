@@ -1,5 +1,0 @@
-use Rattle.probe_point.proofs.Unique.{one_square}
-use Rattle.probe_point.proofs.laws.one_square.Goals as goal
-
-pub returns : goal.returns
-returns c = one_square

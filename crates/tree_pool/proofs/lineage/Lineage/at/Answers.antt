@@ -1,0 +1,10 @@
+use Rattle.std.proofs.Common.{[], length, ap, arith}
+use Rattle.tree_pool.proofs.PathsOf.{length-paths}
+use Rattle.tree_pool.proofs.lineage.Lineage.at.Goals as goal
+
+pub place_at-requires-clause-within : goal.place_at-requires-clause-within
+place_at-requires-clause-within c =
+    let a = length-paths [] c.self.inside.places.items in
+    let b = ap length c.self.view_is in
+    let d = c.requires in
+    omega arith
