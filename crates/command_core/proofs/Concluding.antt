@@ -5,7 +5,7 @@ use Rattle.std.specs.Prelude.{None, Some}
 use Rattle.gas_desk.specs.Outside.{Outside, CountsOn, Rose, SameFiles, SameReads, SameWrites}
 use Rattle.gas_desk.specs.declared.whole.WriteStop.{WriteStop}
 use Rattle.gas_desk.specs.declared.whole.WriteStop.TheVariants as write
-use Rattle.command_core.specs.declared.form.Done.{Done}
+use Rattle.command_core.specs.declared.command.Done.{Done}
 use Rattle.command_core.specs.declared.status.Status.{Status}
 use Rattle.command_core.specs.declared.status.Status.TheVariants as ends
 use Rattle.command_core.specs.declared.status.Stop.{Stop}
@@ -13,7 +13,7 @@ use Rattle.command_core.specs.declared.status.Stop.TheVariants as stop
 use Rattle.command_core.specs.Gates.{Reads, AnyRose, found, all_fine}
 use Rattle.command_core.specs.Lines.{line_of}
 use Rattle.command_core.specs.Stops.{HoldsNoWant, IsAnswer, MakesFile, MakesNoFile, StopHoldsNoWant, status_of}
-use Rattle.command_core.specs.Meanings.{Meaning, Does, Distinct, AllWritten, AllParts, SameButOuts, Says, Part, Case, answered, refused, failed, Concluded, Speaks, spoken, no_memory, unsaid, Puts, fault_status}
+use Rattle.command_core.specs.Meanings.{Meaning, Does, Distinct, AllWritten, AllParts, SameButOuts, SaysLine, Part, Case, answered, refused, failed, Concluded, Speaks, spoken, no_memory, unsaid, Puts, fault_status}
 use Rattle.command_core.proofs.Outs.{counts_on, written_around, parts_around}
 use Rattle.command_core.proofs.Walks.{any_rose_within, counts_same, ends_within}
 
@@ -121,7 +121,7 @@ module _ (tells exact : Type 0) (m : Meaning) (before mid now : Outside) (done :
       is_answer = subst IsAnswer (sym is) w.does.is_answer;
       answers = subst (λ x. m.answers before.files x done.note done.texts) (sym is) (w.does.answers t);
       held = λ d. written_around m.outs done.texts before before mid now (λ n. refl) (w.held t d) (s.files t) (s.marks t);
-      said = subst (λ x. Says (line_of x ++ done.note) before now) (sym is) (said t ∙ ap (λ x. x ++ (line_of done.status ++ done.note) ++ 10 ∷ []) (w.said t));
+      said = subst (λ x. SaysLine (line_of x ++ done.note) before now) (sym is) (said t ∙ ap (λ x. x ++ (line_of done.status ++ done.note) ++ 10 ∷ []) (w.said t));
     })
     | no_memory is silent quiet ↦ failed (record { is = inl is; part = inr (part_then t); silent = silent t ∙ w.said t })
     | unsaid is silent rose ↦ failed (record { is = inr is; part = inr (part_then t); silent = silent t ∙ w.said t })
@@ -196,6 +196,7 @@ module _ (tells exact : Type 0) (m : Meaning) (before mid now : Outside) (done :
     write_fault = rose_then;
     unread = λ x _ _ _ n. s.unread x n ∙ w.unread x n;
     unwritten = unwritten_then;
+    no_retry = λ t x h. inl (λ n. s.unread x n ∙ w.unread x n);
     others = λ t n other. let o = w.others t n other in (s.files t n ∙ o.0, s.marks t n ∙ o.1);
     counts = counts_on before mid now w.counts s.counts;
   }
@@ -266,6 +267,7 @@ module _ (tells exact : Type 0) (m : Meaning) (before mid now : Outside) (done :
     write_fault = λ h. let rose = puts_here.cause (ap Some (failed_of e h)) in omega (arith, rose, reads.counts.writes);
     unread = λ x _ _ _ n. puts_here.unread x n ∙ reads.unread x (λ h. cc) n;
     unwritten = λ x no_fault. puts_here.unwritten x (λ h. no_fault (failed_is e (cc))) ∙ reads.unwritten x;
+    no_retry = λ t x h. inl (λ n. puts_here.unread x n ∙ reads.unread x (λ h. cc) n);
     others = λ t n other. let o = puts_here.others t n other in (o.0 ∙ reads.files t n, o.1 ∙ reads.marks t n);
     counts = counts_on before mid now reads.counts puts_here.counts;
   }
@@ -284,7 +286,7 @@ module _ (tells exact : Type 0) (m : Meaning) (before mid now : Outside) (why : 
           not_memory = λ h. no_loss (no_memory_of why (sym is ∙ h));
           ended = ends_within m.gates before before mid now (Some why) refl (counts_same before) s.counts (reads.ended t);
           files = same;
-          said = subst (λ x. Says (line_of x) before now) (sym is) (said t ∙ ap (λ x. x ++ (line_of (status_of why) ++ []) ++ 10 ∷ []) (reads.said t) ∙ ap (λ x. before.said ++ x ++ 10 ∷ []) (append-nil (line_of (status_of why))));
+          said = subst (λ x. SaysLine (line_of x) before now) (sym is) (said t ∙ ap (λ x. x ++ (line_of (status_of why) ++ []) ++ 10 ∷ []) (reads.said t) ∙ ap (λ x. before.said ++ x ++ 10 ∷ []) (append-nil (line_of (status_of why))));
         })
         | no_memory is silent quiet ↦ failed (record { is = inl is; part = inl same; silent = silent t ∙ reads.said t })
         | unsaid is silent rose ↦ failed (record { is = inr is; part = inl same; silent = silent t ∙ reads.said t })
@@ -359,6 +361,7 @@ module _ (tells exact : Type 0) (m : Meaning) (before mid now : Outside) (why : 
     write_fault = refusal_write;
     unread = refusal_unread;
     unwritten = refusal_unwritten;
+    no_retry = λ t x h. inr (λ n. s.files t n ∙ reads.files t n);
     others = λ t n other. (s.files t n ∙ reads.files t n, s.marks t n ∙ reads.marks t n);
     counts = counts_on before mid now reads.counts s.counts;
   }

@@ -4,20 +4,20 @@ use Rattle.gas_model.specs.declared.rows.Many.{Many}
 use Rattle.gas_model.specs.declared.rows.Many.TheVariants as many
 use Rattle.gas_model.specs.declared.rows.ModelFault.{ModelFault}
 use Rattle.gas_model.specs.declared.rows.ModelFault.TheVariants as model
-use Rattle.flat_text.specs.declared.fault.FlatFault.{FlatFault}
-use Rattle.flat_text.specs.declared.fault.FlatFault.TheVariants as flat
-use Rattle.setting_text.specs.declared.fault.Key.{Key}
-use Rattle.setting_text.specs.declared.fault.Key.TheVariants as key
-use Rattle.setting_text.specs.declared.fault.SettingFault.{SettingFault}
-use Rattle.setting_text.specs.declared.fault.SettingFault.TheVariants as setting
-use Rattle.tag_outline.specs.declared.fault.FileFault.{FileFault}
-use Rattle.tag_outline.specs.declared.fault.FileFault.TheVariants as file
-use Rattle.tag_outline.specs.declared.fault.OutlineFault.{OutlineFault}
-use Rattle.tag_outline.specs.declared.fault.OutlineFault.TheVariants as outline
-use Rattle.res_table.specs.declared.rows.ResFault.{ResFault}
-use Rattle.res_table.specs.declared.rows.ResFault.TheVariants as res
-use Rattle.network.specs.declared.faults.JoinFault.{JoinFault}
-use Rattle.network.specs.declared.faults.JoinFault.TheVariants as join
+use Rattle.problem_faults.specs.declared.flat.FlatFault.{FlatFault}
+use Rattle.problem_faults.specs.declared.flat.FlatFault.TheVariants as flat
+use Rattle.file_faults.specs.declared.setting.Key.{Key}
+use Rattle.file_faults.specs.declared.setting.Key.TheVariants as key
+use Rattle.file_faults.specs.declared.setting.SettingFault.{SettingFault}
+use Rattle.file_faults.specs.declared.setting.SettingFault.TheVariants as setting
+use Rattle.file_faults.specs.declared.outline.FileFault.{FileFault}
+use Rattle.file_faults.specs.declared.outline.FileFault.TheVariants as file
+use Rattle.file_faults.specs.declared.outline.OutlineFault.{OutlineFault}
+use Rattle.file_faults.specs.declared.outline.OutlineFault.TheVariants as outline
+use Rattle.file_faults.specs.declared.table.ResFault.{ResFault}
+use Rattle.file_faults.specs.declared.table.ResFault.TheVariants as res
+use Rattle.problem_faults.specs.declared.join.JoinFault.{JoinFault}
+use Rattle.problem_faults.specs.declared.join.JoinFault.TheVariants as join
 use Rattle.command_core.specs.declared.status.InputFault.{InputFault}
 use Rattle.command_core.specs.declared.status.InputFault.TheVariants.{OfFile, OfRes, OfJoin, OfFlat, OfSetting}
 

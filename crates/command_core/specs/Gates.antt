@@ -18,21 +18,26 @@ pub data FileIs (X : Type 0) : Type 0 where
   refused : InputFault → FileIs X
   stands : X → FileIs X
 
--- the most bytes that an input file may have
-abbrev pub limit : ℕ
-limit = 67108864
+-- the most bytes that a text may have which is read as a whole
+abbrev pub text_limit : ℕ
+text_limit = 67108864
+
+-- what a file's bytes stand for, or the fault of the file that a reader's own fault is
+abbrev pub with_fault : {E X : Type 0} → (E → InputFault) → Result X E → Result X InputFault
+with_fault fault (Ok x) = Ok x
+with_fault fault (Err e) = Err (fault e)
 
 abbrev pub judged : {X : Type 0} → Result X InputFault → FileIs X
 judged (Ok x) = stands x
 judged (Err e) = refused e
 
-abbrev pub measured : {X : Type 0} → (List ℕ → Result X InputFault) → List ℕ → FileIs X
-measured read bytes = if nat_le (length bytes) limit then judged (read bytes) else too_long
+abbrev pub measured : {X : Type 0} → (limit : ℕ) → (List ℕ → Result X InputFault) → List ℕ → FileIs X
+measured limit read bytes = if nat_le (length bytes) limit then judged (read bytes) else too_long
 
--- what a file is, by what its bytes stand for
-abbrev pub file_is : {X : Type 0} → (List ℕ → Result X InputFault) → Option (List ℕ) → FileIs X
-file_is read None = absent
-file_is read (Some bytes) = measured read bytes
+-- what a file is that may have so many bytes, by what they stand for
+abbrev pub file_is : {X : Type 0} → (limit : ℕ) → (List ℕ → Result X InputFault) → Option (List ℕ) → FileIs X
+file_is limit read None = absent
+file_is limit read (Some bytes) = measured limit read bytes
 
 -- what stands at a gate
 pub data Standing : Type 0 where
@@ -106,9 +111,10 @@ pub record Reads (tells exact : Type 0) (gates : List Gate) (before now : Outsid
   pub unwritten : exact → SameWrites before now
   pub counts : CountsOn before now
 
--- the gate of a file of this name, by what it is
-abbrev pub gate_of : {X : Type 0} → InputFile → (List ℕ → Result X InputFault) → List ℕ → Gate
-gate_of file read name = record { file = file; name = Some name; stands_there = λ files. standing (file_is read (files name)) }
+-- the gate of a file of this name that may have so many bytes, by what they stand for; it holds no more of them than whether
+-- the file is fine
+abbrev pub gate_of : {X : Type 0} → InputFile → (limit : ℕ) → (List ℕ → Result X InputFault) → List ℕ → Gate
+gate_of file limit read name = record { file = file; name = Some name; stands_there = λ files. standing (file_is limit read (files name)) }
 
 -- any bytes stand for themselves
 abbrev pub any_bytes : List ℕ → Result (List ℕ) InputFault

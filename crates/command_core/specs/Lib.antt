@@ -4,4 +4,5 @@ pub mod Lines
 pub mod Stops
 pub mod Gates
 pub mod Meanings
-pub mod Forms
+pub mod Saying
+pub mod Written

@@ -5,7 +5,7 @@ use Rattle.gas_desk.specs.Outside.{Outside, CountsOn, Rose, SameFiles, SameMarks
 use Rattle.gas_desk.specs.Whole.{HoldsFrontOf}
 use Rattle.gas_desk.specs.declared.whole.WriteStop.{WriteStop}
 use Rattle.gas_desk.specs.declared.whole.WriteStop.TheVariants as write
-use Rattle.command_core.specs.declared.form.Done.{Done}
+use Rattle.command_core.specs.declared.command.Done.{Done}
 use Rattle.command_core.specs.declared.status.Status.{Status}
 use Rattle.command_core.specs.declared.status.Status.TheVariants as ends
 use Rattle.command_core.specs.declared.status.InputFile.{InputFile}
@@ -13,7 +13,7 @@ use Rattle.command_core.specs.declared.status.InputFault.{InputFault}
 use Rattle.command_core.specs.declared.status.Stop.{Stop}
 use Rattle.command_core.specs.Gates.{Files, Gate, all_fine, bad, long, found, AnyRose, Ends}
 use Rattle.command_core.specs.Lines.{line_of}
-use Rattle.command_core.specs.Stops.{HoldsNoWant, IsAnswer, MakesFile, MakesNoFile, status_of}
+use Rattle.command_core.specs.Stops.{HoldsNoWant, IsAnswer, IsFault, MakesFile, MakesNoFile, status_of}
 
 -- the names of files, as texts
 abbrev pub names : List (Bor (List ℕ)) → List (List ℕ)
@@ -88,8 +88,8 @@ AllParts (out ∷ outs) (text ∷ texts) before now = IsPart out text before now
 AllParts outs texts before now = ⊥
 
 -- the line was said once
-abbrev pub Says : List ℕ → Outside → Outside → Type 0
-Says line before now = now.said ≡ before.said ++ line ++ 10 ∷ []
+abbrev pub SaysLine : List ℕ → Outside → Outside → Type 0
+SaysLine line before now = now.said ≡ before.said ++ line ++ 10 ∷ []
 
 -- the command answered this status: the input files are fine, and the OUTs hold its texts
 pub record Answered (m : Meaning) (before now : Outside) (status : Status) : Type 0 where
@@ -99,7 +99,7 @@ pub record Answered (m : Meaning) (before now : Outside) (status : Status) : Typ
   pub fine : found m.gates before.files ≡ all_fine
   pub answers : m.answers before.files status note texts
   pub held : Distinct m.outs → AllWritten m.outs texts before now
-  pub said : Says (line_of status ++ note) before now
+  pub said : SaysLine (line_of status ++ note) before now
 
 -- reading stopped so
 pub record Refused (m : Meaning) (before now : Outside) (status : Status) : Type 0 where
@@ -108,7 +108,7 @@ pub record Refused (m : Meaning) (before now : Outside) (status : Status) : Type
   pub not_memory : status ≡ ends.NoMemory → ⊥
   pub ended : Ends m.gates before now (Some why)
   pub files : SameFiles before now
-  pub said : Says (line_of status) before now
+  pub said : SaysLine (line_of status) before now
 
 -- the OUTs hold fronts of the texts with which the command could have ended
 pub record Part (m : Meaning) (before now : Outside) : Type 0 where
@@ -143,12 +143,14 @@ pub record Concluded (tells exact : Type 0) (m : Meaning) (before now : Outside)
   pub write_fault : status ≡ ends.WriteFault → Rose before.write_faults now.write_faults
   pub unread : exact → (status ≡ ends.ReadFault → ⊥) → (status ≡ ends.WriteFault → ⊥) → (status ≡ ends.NoMemory → ⊥) → SameReads before now
   pub unwritten : exact → (status ≡ ends.WriteFault → ⊥) → SameWrites before now
+  -- where a fault of reading gave way to another fault, no file was written: nothing is tried again
+  pub no_retry : tells → exact → IsFault status → SameReads before now ⊎ SameFiles before now
   pub others : tells → SameButOuts m.outs before now
   pub counts : CountsOn before now
 
 -- the line was said, or a fault was answered in the place of the status
 pub data Spoke (tells exact : Type 0) (line : List ℕ) (status : Status) (before now : Outside) (result : Status) : Type 0 where
-  spoken : result ≡ status → (tells → Says line before now) → (exact → SameWrites before now) → Spoke tells exact line status before now result
+  spoken : result ≡ status → (tells → SaysLine line before now) → (exact → SameWrites before now) → Spoke tells exact line status before now result
   no_memory : result ≡ ends.NoMemory → (tells → now.said ≡ before.said) → (exact → SameWrites before now) → Spoke tells exact line status before now result
   unsaid : result ≡ ends.WriteFault → (tells → now.said ≡ before.said) → Rose before.write_faults now.write_faults → Spoke tells exact line status before now result
 

@@ -2,7 +2,7 @@
 ghost use Rattle.std.specs.Prelude.{◌≡◌, ◌++◌, ◌∷◌, [], true, false, length, OnOk, OnErr, IsErrOf};
 ghost use Rattle.gas_desk.specs.Outside.{CountsOn, Rose, SameBut, SameFiles, SameMarks, SameMarksBut, SameReads, SameWrites};
 ghost use Rattle.command_core.specs.Lines.{line_of};
-ghost use Rattle.command_core.specs.Meanings.{Concluded, IsPart, IsWritten, Puts, Says, Speaks, fault_in, fault_status, has_text, names};
+ghost use Rattle.command_core.specs.Meanings.{Concluded, IsPart, IsWritten, Puts, SaysLine, Speaks, fault_in, fault_status, has_text, names};
 
 use crate::line::line_of;
 use crate::{Command, Status, Stop};
@@ -10,14 +10,14 @@ use gas_desk::{Desk, DeskStop, WriteStop, write_file};
 use gas_model::{Bytes, NoMemory};
 use std::alloc::Global;
 
-// Says the line of a status.
+// SaysLine the line of a status.
 fn say_line<D: Desk>(
     alloc: Global,
     desk: &mut D,
     status: &Status,
     note: &[u8],
 ) -> Result<(), DeskStop>
-    ensures said { D.tells → OnOk result (Says (line_of status.now ++ note.now) (D.outside desk.old) (D.outside desk.new)) }
+    ensures said { D.tells → OnOk result (SaysLine (line_of status.now ++ note.now) (D.outside desk.old) (D.outside desk.new)) }
     ensures unsaid { D.tells → OnErr result ((D.outside desk.new).said ≡ (D.outside desk.old).said) }
     ensures cause { IsErrOf result DeskStop.Failed → Rose (D.outside desk.old).write_faults (D.outside desk.new).write_faults }
     ensures writing { (D.outside desk.new).writing ≡ (D.outside desk.old).writing }
@@ -40,7 +40,7 @@ fn instead(_status: Status, other: Status) -> Status
     other
 }
 
-// Says the line of a status, and answers it, or the status that says why the line isn't said.
+// SaysLine the line of a status, and answers it, or the status that says why the line isn't said.
 pub fn speak<D: Desk>(alloc: Global, desk: &mut D, status: Status, note: &[u8]) -> Status
     ensures { Speaks D.tells D.counts_exactly (line_of status ++ note.now) status (D.outside desk.old) (D.outside desk.new) result }
 {

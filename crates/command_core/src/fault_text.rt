@@ -4,12 +4,9 @@ ghost use Rattle.command_core.specs.FaultTexts.{element_text, fault_text, file_f
 
 use crate::InputFault;
 use crate::words::{put_both, put_numbered};
-use flat_text::FlatFault;
+use file_faults::{FileFault, Key, OutlineFault, ResFault, SettingFault};
 use gas_model::{Bytes, Many, ModelFault, Name, NoMemory};
-use network::JoinFault;
-use res_table::ResFault;
-use setting_text::{Key, SettingFault};
-use tag_outline::{FileFault, OutlineFault};
+use problem_faults::{FlatFault, JoinFault};
 
 fn many_word(what: Many) -> &'static [u8]
     ensures { result.now ≡ many_word what }

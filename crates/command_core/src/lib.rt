@@ -2,15 +2,15 @@
 //! concluded.
 #![tactic(auto)]
 
+mod command;
 mod ending;
 mod fault_text;
-mod form;
 mod input;
 mod line;
 mod status;
 mod words;
 
+pub use command::{Command, Done};
 pub use ending::{conclude, speak};
-pub use form::{Command, Done};
-pub use input::{read_input, refuse};
+pub use input::{TEXT_LIMIT, read_input, refuse};
 pub use status::{InputFault, InputFile, NotFault, Status, Stop, UndecidedBy};

@@ -5,12 +5,9 @@ ghost use Rattle.command_core.specs.Stops.{is_want};
 ghost use Rattle.command_core.specs.declared.status.Stop.{Stop};
 
 use element_laws::Broken;
-use flat_text::FlatFault;
+use file_faults::{FileFault, OutlineFault, ResFault, SettingFault};
 use gas_model::{ModelFault, NoMemory};
-use network::JoinFault;
-use res_table::ResFault;
-use setting_text::SettingFault;
-use tag_outline::{FileFault, OutlineFault};
+use problem_faults::{FlatFault, JoinFault};
 use tree_cert::TreeFault;
 
 /// An input file of a command.

@@ -1,14 +1,2 @@
-pub mod Tolerances
-pub mod Budgets
-pub mod Counts
-pub mod Named
-pub mod Sources
-pub mod Replay
-pub mod Check
-pub mod Solve
-pub mod Written
-pub mod Flatten
-pub mod Make
-pub mod Plain
 pub mod Commands
 pub mod Headline

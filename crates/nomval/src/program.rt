@@ -4,18 +4,18 @@ ghost use Rattle.gas_desk.specs.Outside.{CountsOn, Rose, SameFiles, SameReads, S
 ghost use Rattle.element_laws.specs.declared.broken.Broken.{Broken};
 ghost use Rattle.command_core.specs.Gates.{AnyRose, RoseInOrder, all_fine, bad, found, long};
 ghost use Rattle.command_core.specs.Lines.{line_of};
-ghost use Rattle.command_core.specs.Meanings.{Answered, Due, Excused, Part, SameButOuts, Says};
+ghost use Rattle.command_core.specs.Meanings.{Answered, Due, Excused, Part, SameButOuts, SaysLine};
 ghost use Rattle.command_core.specs.Stops.{HoldsNoWant, IsAnswer, IsFault, IsRefusal, MakesFile, MakesNoFile};
 ghost use Rattle.command_core.specs.declared.status.InputFile.{InputFile};
 ghost use Rattle.command_core.specs.declared.status.InputFault.{InputFault};
 ghost use Rattle.command_core.specs.declared.status.NotFault.{NotFault};
 ghost use Rattle.command_core.specs.declared.status.Status.{Status};
 ghost use Rattle.command_core.specs.declared.status.UndecidedBy.{UndecidedBy};
-ghost use Rattle.nomval.specs.Commands.{ForCommand, OnCommand, meaning};
+ghost use Rattle.command_words.specs.Words.{texts};
+ghost use Rattle.nomval.specs.Commands.{ForCommand, IsPlace, OnCommand, Plain, Says, meaning, plain};
 ghost use Rattle.nomval.specs.Headline.{HasCarried, HasMade, HasNotPassed, HasPassed, HasRefuted, HasWritten, IsBroken, IsKept, LeavesOpen};
-ghost use Rattle.nomval.specs.Plain.{IsPlace, Plain, plain, texts};
 
-use crate::carry::carry_out;
+use crate::commands::carry_out;
 use command_core::Status;
 use gas_desk::Desk;
 use std::alloc::Global;
@@ -44,6 +44,7 @@ pub fn run<D: Desk>(alloc: Global, words: &[&str], desk: &mut D) -> Status
     ensures passes { D.tells → result ≡ Status.Passes → HasPassed (texts words.now) (D.outside desk.old) (D.outside desk.new) }
     ensures not_refutation { D.tells → (fault : NotFault) → result ≡ Status.NotRefutation fault → HasNotPassed fault (texts words.now) (D.outside desk.old) (D.outside desk.new) }
     ensures written { D.tells → result ≡ Status.Written → HasWritten (texts words.now) (D.outside desk.old) (D.outside desk.new) ⊎ HasMade (texts words.now) (D.outside desk.old) (D.outside desk.new) }
+    ensures says { D.tells → IsAnswer result → ForCommand (texts words.now) (λ c. Says c (D.outside desk.old) (D.outside desk.new) result) }
     ensures answers { D.tells → IsAnswer result → ForCommand (texts words.now) (λ c. Answered (meaning c) (D.outside desk.old) (D.outside desk.new) result) }
     ensures own { IsAnswer result → ForCommand (texts words.now) (λ c. (meaning c).may result) }
 
@@ -62,11 +63,12 @@ pub fn run<D: Desk>(alloc: Global, words: &[&str], desk: &mut D) -> Status
     ensures unwritten { D.counts_exactly → (result ≡ Status.WriteFault → ⊥) → SameWrites (D.outside desk.old) (D.outside desk.new) }
     ensures unread { D.counts_exactly → (result ≡ Status.ReadFault → ⊥) → (result ≡ Status.WriteFault → ⊥) → (result ≡ Status.NoMemory → ⊥)
         → SameReads (D.outside desk.old) (D.outside desk.new) }
+    ensures no_retry { D.tells → D.counts_exactly → IsFault result → SameReads (D.outside desk.old) (D.outside desk.new) ⊎ SameFiles (D.outside desk.old) (D.outside desk.new) }
 
     // What stands after it.
     ensures finished { MakesFile result → (D.outside desk.new).writing ≡ false }
     ensures untouched { D.tells → MakesNoFile result → SameFiles (D.outside desk.old) (D.outside desk.new) }
-    ensures refused { D.tells → IsRefusal result → Says (line_of result) (D.outside desk.old) (D.outside desk.new) }
+    ensures refused { D.tells → IsRefusal result → SaysLine (line_of result) (D.outside desk.old) (D.outside desk.new) }
     ensures silent { D.tells → IsFault result → (D.outside desk.new).said ≡ (D.outside desk.old).said }
     ensures part { D.tells → IsFault result
         → OnCommand (texts words.now) (λ c. SameFiles (D.outside desk.old) (D.outside desk.new) ⊎ Part (meaning c) (D.outside desk.old) (D.outside desk.new)) }

@@ -4,16 +4,16 @@ ghost use Rattle.gas_desk.specs.Never.{never_failing};
 ghost use Rattle.element_laws.specs.declared.broken.Broken.{Broken};
 ghost use Rattle.command_core.specs.Gates.{all_fine, bad, found, long};
 ghost use Rattle.command_core.specs.Lines.{line_of};
-ghost use Rattle.command_core.specs.Meanings.{Answered, Due, SameButOuts, Says};
+ghost use Rattle.command_core.specs.Meanings.{Answered, Due, SameButOuts, SaysLine};
 ghost use Rattle.command_core.specs.Stops.{IsAnswer, IsRefusal};
 ghost use Rattle.command_core.specs.declared.status.InputFile.{InputFile};
 ghost use Rattle.command_core.specs.declared.status.InputFault.{InputFault};
 ghost use Rattle.command_core.specs.declared.status.NotFault.{NotFault};
 ghost use Rattle.command_core.specs.declared.status.Status.{Status};
 ghost use Rattle.command_core.specs.declared.status.UndecidedBy.{UndecidedBy};
-ghost use Rattle.nomval.specs.Commands.{ForCommand, OnCommand, meaning};
+ghost use Rattle.command_words.specs.Words.{texts};
+ghost use Rattle.nomval.specs.Commands.{ForCommand, IsPlace, OnCommand, Plain, Says, meaning, plain};
 ghost use Rattle.nomval.specs.Headline.{HasCarried, HasMade, HasNotPassed, HasPassed, HasRefuted, HasWritten, IsBroken, IsKept, LeavesOpen};
-ghost use Rattle.nomval.specs.Plain.{IsPlace, Plain, plain, texts};
 
 use crate::{Status, run};
 use gas_desk::NeverFails;
@@ -37,12 +37,13 @@ pub fn run_undisturbed(alloc: Global, words: &[&str], desk: &mut NeverFails) -> 
     ensures passes { result ≡ Status.Passes → HasPassed (texts words.now) (never_failing desk.old) (never_failing desk.new) }
     ensures not_refutation { (fault : NotFault) → result ≡ Status.NotRefutation fault → HasNotPassed fault (texts words.now) (never_failing desk.old) (never_failing desk.new) }
     ensures written { result ≡ Status.Written → HasWritten (texts words.now) (never_failing desk.old) (never_failing desk.new) ⊎ HasMade (texts words.now) (never_failing desk.old) (never_failing desk.new) }
+    ensures says { IsAnswer result → ForCommand (texts words.now) (λ c. Says c (never_failing desk.old) (never_failing desk.new) result) }
     ensures usage { (at : ℕ) → result ≡ Status.Usage at → (plain (texts words.now) ≡ Err at) × IsPlace at (texts words.now) }
     ensures bad_input { (file : InputFile) (fault : InputFault) → result ≡ Status.BadInput file fault
         → ForCommand (texts words.now) (λ c. found (meaning c).gates (never_failing desk.old).files ≡ bad file fault) }
     ensures too_long { (file : InputFile) → result ≡ Status.TooLong file
         → ForCommand (texts words.now) (λ c. found (meaning c).gates (never_failing desk.old).files ≡ long file) }
-    ensures refused { IsRefusal result → Says (line_of result) (never_failing desk.old) (never_failing desk.new) }
+    ensures refused { IsRefusal result → SaysLine (line_of result) (never_failing desk.old) (never_failing desk.new) }
     ensures others { OnCommand (texts words.now) (λ c. SameButOuts (meaning c).outs (never_failing desk.old) (never_failing desk.new)) }
 {
     run(alloc, words, desk)

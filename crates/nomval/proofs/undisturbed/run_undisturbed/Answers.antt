@@ -14,5 +14,8 @@ returns-clause-complete c = λ command e fine. unexcused (meaning command) c.arg
 pub returns-clause-due : goal.returns-clause-due
 returns-clause-due c = λ command s e due. unexcused (meaning command) c.args.desk.now c.run.new.desk c.run.result (c.run.ensures.due tt command s e due)
 
+pub returns-clause-written : goal.returns-clause-written
+returns-clause-written c = λ e. c.run.ensures.written tt e
+
 pub returns-clause-others : goal.returns-clause-others
 returns-clause-others c = λ command e. c.run.ensures.others tt command e

@@ -1,0 +1,5 @@
+pub mod WordsAt
+pub mod WrongWords
+pub mod WrongOptions
+pub mod WrongForms
+pub mod WrongCommands

@@ -1,0 +1,2 @@
+pub mod MakesIt
+pub mod Saying

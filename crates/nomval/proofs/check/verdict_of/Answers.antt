@@ -1,4 +1,0 @@
-use Rattle.nomval.proofs.check.verdict_of.Goals as goal
-
-pub returns-in-Err : goal.returns-in-Err
-returns-in-Err c = c.refused.ensures c.args.p.now c.args.text.now c.in-Err.ensures.exact

@@ -1,0 +1,3 @@
+pub mod Refused
+pub mod Replaying
+pub mod Saying

@@ -1,0 +1,4 @@
+pub mod Words
+pub mod BrokenIds
+pub mod Meaning
+pub mod Outcome

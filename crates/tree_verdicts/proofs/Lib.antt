@@ -1,0 +1,2 @@
+pub mod OneFinding
+pub mod ReadBack
