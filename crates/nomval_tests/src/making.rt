@@ -37,6 +37,10 @@ fn a_number_makes_its_problem(rt: HostRuntime) -> Result<(), Fail> {
             "made nodes 200 arcs 199 accepted\n"
         )
     );
+    // What was written is the problem of which that was said.
+    let solve = ["solve-flat", "o", "s"];
+    let both = "made nodes 200 arcs 199 accepted\naccepted\n";
+    assert!(rt; ends(alloc, &mut desk, &solve, 0, both));
     Ok(())
 }
 

@@ -1,0 +1,5 @@
+//! Examples of reading files, by the public calls of the crates that do it.
+#![tactic(auto)]
+
+#[cfg(test)]
+mod hostile_names;
