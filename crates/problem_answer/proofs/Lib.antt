@@ -1,2 +1,2 @@
 pub mod Halting
-pub mod Refuting
+pub mod NearKinds

@@ -6,16 +6,16 @@ ghost use Rattle.gas_model.specs.declared.rows.Setting.{Setting};
 ghost use Rattle.setting_text.specs.Reading.{StandsFor};
 ghost use Rattle.tree_cert.specs.Texts.{PassesWholeText};
 ghost use Rattle.tree_rules.specs.Branches.{rules_of};
-ghost use Rattle.nom_search.specs.Halted.{IsAnswerOf};
+ghost use Rattle.decide.specs.Decided.{IsDecided};
 ghost use Rattle.command_words.specs.Budgets.{most_budget};
 ghost use Rattle.command_words.specs.Tolerances.{most_tolerance};
 ghost use Rattle.problem_answer.specs.Found.{HaltsWith, IsFound, why_of};
 ghost use Rattle.command_core.specs.declared.status.UndecidedBy.{UndecidedBy};
 
 use command_core::UndecidedBy;
+use decide::{Found, Why, decide};
 use element_laws::first_broken;
 use gas_model::{Bytes, NoMemory, Problem, Setting};
-use nom_search::{Found, Why, search_problem};
 use setting_text::{SettingFault, read_setting, write_setting};
 use std::alloc::Global;
 use tree_verdicts::{check_part, check_whole};
@@ -97,25 +97,25 @@ fn left(
     Ok(Answer::Left { why, text, line })
 }
 
-// What the search finds.
-fn searched(alloc: Global, p: &Problem, tol: u64, boxes: u64) -> Result<Found, NoMemory>
+// What is decided of it.
+fn decided(alloc: Global, p: &Problem, tol: u64, boxes: u64) -> Result<Found, NoMemory>
     requires tol { tol ≤ most_tolerance }
     requires boxes { boxes ≤ most_budget }
     ensures within { IsWithin p.now }
-    ensures found { IfOk result (IsAnswerOf p.now (pos tol) boxes) }
+    ensures found { IfOk result (IsDecided p.now tol boxes) }
 {
     let _nodes = p.nodes();
-    search_problem(alloc, p, tol, boxes)
+    decide(alloc, p, tol, boxes)
 }
 
-/// Searches the boxes of a problem, of which `boxes` may be split, for a setting that carries it within the tolerance
-/// `tol`, in Pa^2, or a tree that refutes it. What is found is read back, an open tree too.
+/// Looks for a setting that carries the problem within the tolerance `tol`, in Pa^2, or for a tree that refutes it; a
+/// search may split `boxes` boxes. What is found is read back, an open tree too.
 pub fn answer_of(alloc: Global, p: &Problem, tol: u64, boxes: u64) -> Result<Answer, NoMemory>
     requires tol { tol ≤ most_tolerance }
     requires boxes { boxes ≤ most_budget }
     ensures { IfOk result (IsFound tol boxes p.now) }
 {
-    match searched(alloc, p, tol, boxes)? {
+    match decided(alloc, p, tol, boxes)? {
         Found::Carried(setting) => carried(alloc, p, &setting, tol),
         Found::Refuted(text) => refuted(alloc, p, text),
         Found::Left { why, tree, line } => left(alloc, p, reason(why), tree, line),

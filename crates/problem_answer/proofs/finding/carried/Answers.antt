@@ -1,4 +1,4 @@
-use Rattle.problem_answer.proofs.Refuting.{near_kinds}
+use Rattle.problem_answer.proofs.NearKinds.{near_kinds}
 use Rattle.problem_answer.proofs.finding.carried.Goals as goal
 
 pub replay_back-requires-clause-stands : goal.replay_back-requires-clause-stands
