@@ -27,7 +27,7 @@ use std::alloc::Global;
 use tree_cert::{Closing, Step};
 
 /// Why a search leaves a box open: its budget is spent; or no box is left to split, since all variables of the open ones
-/// are less than 2 wide.
+/// are at most one sixteenth of a unit wide.
 #[derive(Clone, Copy, Debug, PartialEq, Eq)]
 pub enum Why {
     Budget,

@@ -76,11 +76,11 @@ fn bounds_that_leave_nothing_are_rejected(rt: HostRuntime) -> Result<(), Fail> {
     let alloc = rt.alloc();
     for (lines, text) in [
         // From 36 to 25 there is no square.
-        ("node a 6 5 0 0\n", "gastree 1\nclose empty s0\nend\n"),
+        ("node a 6 5 0 0\n", "gastree 2\nclose empty s0\nend\n"),
         // A flow without a value comes before a square without one.
         (
             "node a 6 5 0 0\nnode b 0 9 0 0\npipe p a b 1 -1 1 1 1\n",
-            "gastree 1\nclose empty q0\nend\n",
+            "gastree 2\nclose empty q0\nend\n",
         ),
     ] {
         assert!(rt; rejects(alloc, lines, text)?);
@@ -144,24 +144,33 @@ fn what_needs_halves_is_accepted_within_one(rt: HostRuntime) -> Result<(), Fail>
     Ok(())
 }
 
-// Without a tolerance no variable is left to halve.
+// How the tree of equal pipes begins. Its first open box ends at line 16, and has one point alone: both flows are 8
+// sixteenths, and the squares 25 and 24 and three quarters.
+const HALF_EACH: &str =
+    "gastree 2\nlo q0 0 pipe 0\nhi q0 48 pipe 0\nlo q1 0 pipe 1\nhi q1 48 pipe 1\nhi q0 16 balance 0\nhi q1 16 balance 0\nlo s1 384 pipe 0\nhalve q1\nhalf q1 hi 8\nlo q0 8 balance 0\nhi s1 396 pipe 0\nlo q1 8 pipe 1\nlo s1 396 pipe 1\nhi q0 8 balance 0\nopen\nhalf q1 lo 8\n";
+
+// Without a tolerance no variable is left to halve. The tree passes but for its open boxes.
 #[test]
 fn what_needs_halves_is_left_undecided_by_the_grid(rt: HostRuntime) -> Result<(), Fail> {
     let alloc = rt.alloc();
-    let said = "undecided grid line 9\n";
-    let text =
-        "gastree 1\nlo q0 0 pipe 0\nhi q0 3 pipe 0\nlo q1 0 pipe 1\nhi q1 3 pipe 1\nhi q0 1 balance 0\nhi q1 1 balance 0\nlo s1 24 pipe 0\nopen\nend\n";
-    assert!(rt; solves(alloc, EXACT, TWO_PIPES, 2, said, text)?);
+    let mut desk = problem_desk(alloc, TWO_PIPES)?;
+    assert!(rt; ends(alloc, &mut desk, EXACT, 2, "undecided grid line 16\n"));
+    let begins = desk
+        .file("o")
+        .is_some_and(|text| text.starts_with(HALF_EACH.as_bytes()));
+    assert!(rt; begins);
+    let both = "undecided grid line 16\nnot refutation open line 16\n";
+    assert!(rt; ends(alloc, &mut desk, CHECK, 3, both));
     Ok(())
 }
 
-// One box is split, and the first of its halves would be next.
+// One box is split, at the middle of 0 to 16 sixteenths, and the first of its halves would be next.
 #[test]
 fn a_spent_budget_names_its_box(rt: HostRuntime) -> Result<(), Fail> {
     let alloc = rt.alloc();
     let said = "undecided budget line 5\n";
     let text =
-        "gastree 1\nhalve s0\nhalf s0 hi 20\nhi s1 20 pipe 0\nopen\nhalf s0 lo 20\nopen\nend\n";
+        "gastree 2\nhalve q1\nhalf q1 hi 8\nlo q0 8 balance 0\nopen\nhalf q1 lo 8\nopen\nend\n";
     for words in [
         &["solve-flat", "p", "o", "--tol", "0", "--boxes", "1"],
         &["solve-flat", "p", "o", "--boxes", "1", "--tol", "0"],
@@ -188,7 +197,7 @@ fn the_tree_of_a_spent_budget_passes_in_part(rt: HostRuntime) -> Result<(), Fail
 fn a_flow_of_four_is_rejected(rt: HostRuntime) -> Result<(), Fail> {
     let alloc = rt.alloc();
     let mut desk = problem_desk(alloc, DROP_OF_NINE)?;
-    let text = "gastree 1\nlo q0 4 balance 0\nhi q0 4 balance 0\nclose pipe 0\nend\n";
+    let text = "gastree 2\nlo q0 64 balance 0\nhi q0 64 balance 0\nclose pipe 0\nend\n";
     assert!(rt; ends(alloc, &mut desk, USUAL, 1, "rejected\n"));
     assert!(rt; wrote(&desk, text));
     assert!(rt; ends(alloc, &mut desk, CHECK, 0, "rejected\npasses\n"));
@@ -202,7 +211,7 @@ fn decisions_are_tried(rt: HostRuntime) -> Result<(), Fail> {
     let shut =
         "node a 0 9 3 3\nnode b 0 9 -3 -3\nvalve v a b -10 10\ngroup g\ndecision d\nset v closed\n";
     let tree =
-        "gastree 1\nlo q0 3 balance 0\nhi q0 3 balance 0\ngroup 0\ntake 0 0\nclose cut 0\nend\n";
+        "gastree 2\nlo q0 48 balance 0\nhi q0 48 balance 0\ngroup 0\ntake 0 0\nclose cut 0\nend\n";
     assert!(rt; rejects(alloc, shut, tree)?);
     let either =
         "node a 0 9 3 3\nnode b 0 9 -3 -3\nvalve v a b -10 10\ngroup g\ndecision d\nset v closed\ndecision e\nset v open\n";
@@ -222,12 +231,12 @@ fn the_states_of_a_station_are_tried(rt: HostRuntime) -> Result<(), Fail> {
         (
             "node a 4 4 1 1\nnode b 6 6 -1 -1\nstation c a b 0 10 0 100000000 3 2 100000000\n",
             "node a 4 4 1 1\nnode b 7 7 -1 -1\nstation c a b 0 10 0 100000000 3 2 100000000\n",
-            "gastree 1\nhi q0 1 balance 0\nlo q0 1 balance 0\narc 0\nstate 0 active\nclose ratio 0\nstate 0 bypass\nlo s0 17 equal 0\nclose empty s0\nstate 0 closed\nclose cut 0\nend\n",
+            "gastree 2\nhi q0 16 balance 0\nlo q0 16 balance 0\narc 0\nstate 0 active\nclose ratio 0\nstate 0 bypass\nlo s0 257 equal 0\nclose empty s0\nstate 0 closed\nclose cut 0\nend\n",
         ),
         (
             "node a 4 4 1 1\nnode b 6 6 -1 -1\nstation c a b 0 10 0 100000000 1048576 1 2\n",
             "node a 4 4 1 1\nnode b 7 7 -1 -1\nstation c a b 0 10 0 100000000 1048576 1 2\n",
-            "gastree 1\nhi q0 1 balance 0\nlo q0 1 balance 0\narc 0\nstate 0 active\nclose rise 0\nstate 0 bypass\nlo s0 17 equal 0\nclose empty s0\nstate 0 closed\nclose cut 0\nend\n",
+            "gastree 2\nhi q0 16 balance 0\nlo q0 16 balance 0\narc 0\nstate 0 active\nclose rise 0\nstate 0 bypass\nlo s0 257 equal 0\nclose empty s0\nstate 0 closed\nclose cut 0\nend\n",
         ),
     ] {
         assert!(rt; accepts(alloc, USUAL, good, text)?);

@@ -8,6 +8,9 @@ mod DepthTree
 mod DepthWidth
 pub mod BudgetLaw
 pub mod DepthLaw
+pub mod FinestBoxes
+pub mod FinestLaws
+pub mod HalfEach
 pub mod Reaching
 pub mod StepChildren
 pub mod StepLaws

@@ -10,6 +10,7 @@ use Rattle.nom_search.specs.Halted.{Halted}
 use Rattle.search_reach.specs.Reached.{NamedIsDeep, BudgetIsShort, HaltedSearchesReach}
 use Rattle.search_reach.proofs.BudgetLaw.{budgets_suffice}
 use Rattle.search_reach.proofs.DepthLaw.{deep_stops}
+use Rattle.search_reach.proofs.FinestLaws.{left_are_finest}
 use Rattle.search_reach.proofs.StepLaws.{few_where_halted}
 use Rattle.search_reach.proofs.WidthLaws.{few_halvings_where_halted, narrow_named}
 
@@ -26,6 +27,7 @@ halted_reach p tol budget why rows text line within h = record {
   steps = few_where_halted p tol budget why rows text line within h;
   halvings = few_halvings_where_halted p tol budget why rows text line h;
   narrow = narrow_named p tol budget why rows text line h;
+  finest = left_are_finest p tol budget why rows text line h;
   deep = named_deep p tol budget why rows text line h;
   short = budget_short p tol budget why rows text line h;
 }

@@ -1,7 +1,7 @@
--- How wide a variable is at first.
+-- How wide a variable is at first, in sixteenths.
 use Rattle.std.proofs.Common.{◌≡◌, ℕ, zero, suc, ◌*◌, ◌^◌, refl, arith, pos, ◌≤ℤ◌, List, [], ◌∷◌, map, Some, slice_index_or, IsTrue}
 use Rattle.std.specs.Prelude.{slice_get}
-use Rattle.integer_laws.proofs.Ring.{linear, one_mul, square_le, square_nonneg}
+use Rattle.integer_laws.proofs.Ring.{linear, square_le, square_nonneg}
 use Rattle.gas_model.specs.declared.rows.ArcRow.{ArcRow}
 use Rattle.gas_model.specs.declared.rows.NodeRow.{NodeRow}
 use Rattle.gas_model.specs.declared.rows.Ends.{Ends}
@@ -28,14 +28,14 @@ flow_narrow row t =
     let f = row_flows row t in
     let low = flow_from row.q_min f.0 in
     let high = flow_most row.q_max f.1 in
-    omega (arith, linear, low, high, one_mul row.q_min, one_mul row.q_max)
+    omega (arith, linear, low, high)
 
 square_narrow : (node : NodeRow) → IsTrue (is_node_within node) → IsNarrow (square_ends pool_scale node)
 square_narrow node t =
     let f = node_pressures node t in
     let low = square_nonneg node.p_min in
     let high = square_le node.p_max (pos (10 ^ 8)) (pressure_from node.p_max f.1) (pressure_most node.p_max f.1) in
-    omega (arith, linear, low, high, one_mul (square node.p_min), one_mul (square node.p_max))
+    omega (arith, linear, low, high)
 
 pub opening_narrow : (p : Network) → IsWithin p → (v : Var) → width_of (ends_of (opening pool_scale p) v) ≤ℤ pos (16 * 10 ^ 16)
 opening_narrow p within (Flow a) = mapped (flow_ends pool_scale) p.arcs a (λ row at. flow_narrow row (within.arcs a row at))

@@ -11,6 +11,7 @@ use Rattle.nom_search.specs.Halted.{Halted}
 use Rattle.search_order.specs.Levels.{levels}
 use Rattle.search_reach.specs.Budgets.{last_depth}
 use Rattle.search_reach.specs.Depth.{children_at, IsDeep}
+use Rattle.search_reach.specs.Finest.{LeftAreFinest}
 use Rattle.search_reach.specs.StepPaths.{StepsAreFewIn}
 use Rattle.search_reach.specs.Widths.{HalvingsAreFewIn, NamedIsNarrow}
 
@@ -25,12 +26,13 @@ BudgetIsShort p budget Budget = levels (children_at p) (last_depth p) ≤ budget
 BudgetIsShort p budget Grid = Unit {0}
 
 -- On the way to each box each variable is tightened at most 320 times, and halved no more often than its width at first
--- allows. The box that is named is narrow. For want of budget it lies deep, and a budget that pays for all boxes is never
--- spent.
+-- allows. The box that is named is narrow. For want of a finer grid each variable of each open box is at most one sixteenth
+-- wide. For want of budget the named box lies deep, and a budget that pays for all boxes is never spent.
 pub record Reached (p : Network) (tol : ℤ) (budget : ℕ) (why : Why) (rows : List Row) (text : List ℕ) (line : ℕ) (h : Halted p tol (root_box pool_scale p) budget why rows text line) : Type 0 where
   pub steps : StepsAreFewIn rows
   pub halvings : HalvingsAreFewIn p rows
   pub narrow : NamedIsNarrow p tol budget why rows text line h
+  pub finest : LeftAreFinest p tol budget why rows text line h
   pub deep : NamedIsDeep p tol budget why rows text line h
   pub short : BudgetIsShort p budget why
 

@@ -1,5 +1,5 @@
 -- How often variables are halved on the way from the root of a search down to one of its boxes, and how narrow they are
--- in the box at which it stops.
+-- in the box at which it stops. Widths count sixteenths.
 use Rattle.std.specs.Prelude.{◌≡◌, ℕ, ◌*◌, ◌^◌, ◌≤◌, ℤ, pos, ◌-ℤ◌, ◌*ℤ◌, ◌≤ℤ◌, Bool, true, false, List, [], ◌∷◌, length, filter, Option, Some, option_and_then, slice_get, IsTrue}
 use Rattle.std.specs.List.{list_any}
 use Rattle.std.specs.Option.{option_map_or}
@@ -42,7 +42,7 @@ halvings rows path = length (filter is_half (heads_to rows path))
 abbrev pub halvings_of : Var → List Row → List ℕ → ℕ
 halvings_of v rows path = length (filter (halves v) (heads_to rows path))
 
--- how wide the variable is in the box
+-- how wide the variable is in the box, in the units of its ends
 abbrev pub width_in : PartBox → Var → ℤ
 width_in b v = width_of (ends_of b.bounds v)
 

@@ -129,7 +129,7 @@ fn split(pool: &mut Pool, alloc: Global, p: &Problem, n: u32) -> Result<Fork, Fa
     Ok(fork)
 }
 
-const HALVED: &str = "gastree 1
+const HALVED: &str = "gastree 2
 halve q1
 half q1 hi 0
 open
@@ -138,14 +138,15 @@ open
 end
 ";
 
-// The pipe r is the chord. Its flow is the first place of the list of variables to split, and the square of a the second.
+// The pipe r is the chord. Its flow, of -10 to 10, or -160 to 160 sixteenths, is the first place of the list of variables to
+// split, and the square of a the second.
 #[test]
 fn box_of_two_pipes_is_halved_at_the_chord(rt: HostRuntime) -> Result<(), Fail> {
     let alloc = rt.alloc();
     let p = two_pipes(alloc, List::new(alloc))?;
     let mut pool = begin(alloc, &p)?;
     take(&mut pool, &p, 0)?;
-    assert_eq!(rt; shown(&pool, alloc, &p, 0, 1)?, (0, (-10, 10)));
+    assert_eq!(rt; shown(&pool, alloc, &p, 0, 1)?, (0, (-160, 160)));
     let halves = Fork::Halve {
         var: Var::Flow(1),
         at: 0,
@@ -153,8 +154,8 @@ fn box_of_two_pipes_is_halved_at_the_chord(rt: HostRuntime) -> Result<(), Fail> 
     };
     assert_eq!(rt; split(&mut pool, alloc, &p, 0)?, halves);
     take(&mut pool, &p, 1)?;
-    assert_eq!(rt; shown(&pool, alloc, &p, 1, 0)?, (1, (-10, 10)));
-    assert_eq!(rt; shown(&pool, alloc, &p, 1, 1)?, (1, (-10, 0)));
+    assert_eq!(rt; shown(&pool, alloc, &p, 1, 0)?, (1, (-160, 160)));
+    assert_eq!(rt; shown(&pool, alloc, &p, 1, 1)?, (1, (-160, 0)));
     assert_eq!(rt; pool.branched(), 1);
     assert_eq!(rt; pool.depth_of(1), 1);
     assert_eq!(rt; pool.line_of(1), 4);

@@ -36,12 +36,13 @@ fn drop_of_nine_is_refuted(rt: HostRuntime) -> Result<(), Fail> {
     let Found::Refuted(text) = search_problem(rt.alloc(), &p, 0, 256)? else {
         return Err(Fail::from("no tree"));
     };
-    let wanted = "gastree 1\nlo q0 4 balance 0\nhi q0 4 balance 0\nclose pipe 0\nend\n";
+    let wanted = "gastree 2\nlo q0 64 balance 0\nhi q0 64 balance 0\nclose pipe 0\nend\n";
     assert_eq!(rt; text.as_slice(), wanted.as_bytes());
     Ok(())
 }
 
-// The only exact flows are one half each, so no box is left to split, and none refutes.
+// The only exact flows are one half each, so no box is left to split, and none refutes. The first open box has one point:
+// its flows are 8 sixteenths each, and the square of b is 396 of them, 24 and three quarters.
 #[test]
 fn halves_of_a_flow_are_left_to_a_finer_grid(rt: HostRuntime) -> Result<(), Fail> {
     let of = Pair {
@@ -54,14 +55,15 @@ fn halves_of_a_flow_are_left_to_a_finer_grid(rt: HostRuntime) -> Result<(), Fail
         return Err(Fail::from("an answer"));
     };
     assert_eq!(rt; why, Why::Grid);
-    assert_eq!(rt; line, 9);
-    let wanted =
-        "gastree 1\nlo q0 0 pipe 0\nhi q0 3 pipe 0\nlo q1 0 pipe 1\nhi q1 3 pipe 1\nhi q0 1 balance 0\nhi q1 1 balance 0\nlo s1 24 pipe 0\nopen\nend\n";
-    assert_eq!(rt; tree.as_slice(), wanted.as_bytes());
+    assert_eq!(rt; line, 16);
+    let begins =
+        "gastree 2\nlo q0 0 pipe 0\nhi q0 48 pipe 0\nlo q1 0 pipe 1\nhi q1 48 pipe 1\nhi q0 16 balance 0\nhi q1 16 balance 0\nlo s1 384 pipe 0\nhalve q1\nhalf q1 hi 8\nlo q0 8 balance 0\nhi s1 396 pipe 0\nlo q1 8 pipe 1\nlo s1 396 pipe 1\nhi q0 8 balance 0\nopen\nhalf q1 lo 8\n";
+    assert!(rt; tree.as_slice().starts_with(begins.as_bytes()));
     Ok(())
 }
 
-// One box is split. The first half is left for want of budget, after its step; the second isn't looked at.
+// One box is split, at the middle of a flow of 0 to 16 sixteenths. The first half is left for want of budget, after its
+// step; the second isn't looked at.
 #[test]
 fn budget_of_one_box_ends_at_its_first_half(rt: HostRuntime) -> Result<(), Fail> {
     let of = Pair {
@@ -76,7 +78,7 @@ fn budget_of_one_box_ends_at_its_first_half(rt: HostRuntime) -> Result<(), Fail>
     assert_eq!(rt; why, Why::Budget);
     assert_eq!(rt; line, 5);
     let wanted =
-        "gastree 1\nhalve s0\nhalf s0 hi 20\nhi s1 20 pipe 0\nopen\nhalf s0 lo 20\nopen\nend\n";
+        "gastree 2\nhalve q1\nhalf q1 hi 8\nlo q0 8 balance 0\nopen\nhalf q1 lo 8\nopen\nend\n";
     assert_eq!(rt; tree.as_slice(), wanted.as_bytes());
     Ok(())
 }
@@ -94,7 +96,7 @@ fn next_head(alloc: Global, p: &Problem) -> Result<Option<Head>, Fail> {
     Ok(view.head)
 }
 
-// The search stops at the first half of a square. The second one still waits, and is looked at.
+// The search stops at the first half of a flow. The second one still waits, and is looked at.
 #[test]
 fn box_behind_the_last_one_is_looked_at(rt: HostRuntime) -> Result<(), Fail> {
     let of = Pair {
@@ -104,9 +106,9 @@ fn box_behind_the_last_one_is_looked_at(rt: HostRuntime) -> Result<(), Fail> {
     };
     let p = piped(rt.alloc(), of, (0, 1), &["p", "r"])?;
     let upper = Head::Half {
-        var: Var::Square(0),
+        var: Var::Flow(1),
         low: true,
-        value: 20,
+        value: 8,
     };
     assert_eq!(rt; next_head(rt.alloc(), &p)?, Some(upper));
     Ok(())
