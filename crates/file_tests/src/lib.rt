@@ -2,4 +2,8 @@
 #![tactic(auto)]
 
 #[cfg(test)]
+mod desks;
+#[cfg(test)]
+mod fronts;
+#[cfg(test)]
 mod hostile_names;

@@ -2,6 +2,7 @@ pub mod Outside
 pub mod Call
 pub mod Shelf
 pub mod Memory
+pub mod Fading
 pub mod Never
 pub mod Host
 pub mod Stops

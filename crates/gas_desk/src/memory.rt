@@ -9,6 +9,29 @@ use crate::{Desk, DeskStop};
 use base_types::{Bytes, List, Name, NoMemory};
 use std::alloc::Global;
 
+// Which calls fail by their number.
+#[derive(Drop)]
+enum Failing {
+    // Those with these numbers.
+    Stated(List<u64>),
+    // All from this number on.
+    From(u64),
+}
+
+impl Failing {
+    ghost use Rattle.gas_desk.specs.Memory.{fails_at};
+
+    // Whether the call with this number fails.
+    fn fails(&self, call: u64) -> bool
+        ensures { result ≡ fails_at self.now call }
+    {
+        match self {
+            Failing::Stated(calls) => calls.as_slice().contains(&call),
+            Failing::From(first) => *first <= call,
+        }
+    }
+}
+
 /// Files in memory, of which stated calls fail. It tells its contents.
 ///
 /// Its calls of `Desk` are numbered from 0, and the number stands still at 2^64 - 1. Each call whose
@@ -17,7 +40,7 @@ use std::alloc::Global;
 #[derive(Drop)]
 pub struct MemDesk {
     shelf: Shelf,
-    fails: List<u64>,
+    failing: Failing,
     calls: u64,
     read_most: usize,
     write_most: usize,
@@ -28,7 +51,8 @@ pub struct MemDesk {
 }
 
 impl MemDesk {
-    ghost use Rattle.gas_desk.specs.Memory.{in_memory, call_number, failing_calls, most_read, most_written, fails_now};
+    ghost use Rattle.gas_desk.specs.Memory.{in_memory, call_number, failing, most_read, most_written, fails_now, Begins};
+    ghost use Rattle.gas_desk.specs.declared.memory.Failing.TheVariants.{Stated, From};
 
     /// Begins with these files, of those with one name the first alone, and nothing said, read,
     /// written, finished or counted. The calls with the numbers in `fails` fail. One call reads at
@@ -52,13 +76,43 @@ impl MemDesk {
             (n : List ℕ) → (in_memory desk).read_faults n ≡ 0) }
         ensures write_faults { IfOk result (λ desk. (in_memory desk).write_faults ≡ 0) }
         ensures number { IfOk result (λ desk. call_number desk ≡ 0) }
-        ensures fails { IfOk result (λ desk. failing_calls desk ≡ fails) }
+        ensures fails { IfOk result (λ desk. failing desk ≡ Stated fails) }
         ensures read_most { IfOk result (λ desk. most_read desk ≡ read_most) }
         ensures write_most { IfOk result (λ desk. most_written desk ≡ write_most) }
     {
+        MemDesk::with(alloc, files, Failing::Stated(fails), read_most, write_most)
+    }
+
+    // As `new`, but that each call fails from this number on.
+    pub(crate) fn failing_from(
+        alloc: Global,
+        files: List<(Name, Bytes)>,
+        from: u64,
+        read_most: usize,
+        write_most: usize,
+    ) -> Result<MemDesk, NoMemory>
+        requires read { 0 < read_most }
+        requires write { 0 < write_most }
+        ensures { IfOk result (λ desk. Begins files (From from) read_most write_most desk) }
+    {
+        MemDesk::with(alloc, files, Failing::From(from), read_most, write_most)
+    }
+
+    // Begins with these files, where these calls fail.
+    fn with(
+        alloc: Global,
+        files: List<(Name, Bytes)>,
+        failing: Failing,
+        read_most: usize,
+        write_most: usize,
+    ) -> Result<MemDesk, NoMemory>
+        requires read { 0 < read_most }
+        requires write { 0 < write_most }
+        ensures { IfOk result (λ desk. Begins files failing read_most write_most desk) }
+    {
         Ok(MemDesk {
             shelf: Shelf::new(alloc, files),
-            fails,
+            failing,
             calls: 0,
             read_most,
             write_most,
@@ -88,7 +142,7 @@ impl MemDesk {
     {
         let call = self.calls;
         self.calls = self.calls.saturating_add(1);
-        self.fails.as_slice().contains(&call)
+        self.failing.fails(call)
     }
 
     // Counts a failure to read.

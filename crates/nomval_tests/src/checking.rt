@@ -150,22 +150,20 @@ fn trees_over_each_kind_of_arc_are_checked(rt: HostRuntime) -> Result<(), Fail> 
     Ok(())
 }
 
-// A tree that is cut inside a line, and one that is cut after it.
+// Each front of a tree: one that is cut inside a line, and one that is cut after it.
 #[test]
 fn cut_trees_are_no_refutations(rt: HostRuntime) -> Result<(), Fail> {
     let alloc = rt.alloc();
     let tree = STATION_TREE.as_bytes();
-    for (len, said) in [
-        (0, "not refutation wrong end line 1\n"),
-        (5, "not refutation not tree line 1\n"),
-        (10, "not refutation wrong end line 2\n"),
-        (11, "not refutation not tree line 2\n"),
-        (27, "not refutation not tree line 2\n"),
-        (28, "not refutation wrong end line 3\n"),
-        (tree.len() - 4, "not refutation wrong end line 12\n"),
-        (tree.len() - 1, "not refutation not tree line 12\n"),
-    ] {
-        assert!(rt; checks(alloc, STATION, tree.split_at(len).0, said)?);
+    for len in 0..tree.len() {
+        let front = tree.split_at(len).0;
+        let fault = match front.last() {
+            None | Some(b'\n') => "wrong end",
+            Some(_) => "not tree",
+        };
+        let line = front.split(|byte| *byte == b'\n').count();
+        let said = format!(in alloc; "not refutation {fault} line {line}\n")?;
+        assert!(rt; checks(alloc, STATION, front, said.as_str())?, "{len}");
     }
     Ok(())
 }

@@ -6,6 +6,8 @@ mod checking;
 #[cfg(test)]
 mod desks;
 #[cfg(test)]
+mod failing;
+#[cfg(test)]
 mod faults;
 #[cfg(test)]
 mod joining;

@@ -1,5 +1,6 @@
-use super::*;
-use base_types::{Bytes, List, Name, NoMemory};
+// Files in memory and of the host, whole and in parts.
+use gas_desk::{Desk, HostDesk, MemDesk, NeverFails, ReadStop, WriteStop, read_file, write_file};
+use gas_model::{Bytes, List, Name, NoMemory};
 use std::alloc::Global;
 use std::fs;
 use std::test::Fail;
