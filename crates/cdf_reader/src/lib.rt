@@ -7,6 +7,3 @@ mod sets;
 
 pub use groups::read_cdf;
 pub use rows::{ActiveWord, CdfDecision, CdfGroup, CdfRows, CdfSet};
-
-#[cfg(test)]
-mod tests;

@@ -14,6 +14,3 @@ pub use laws::lines_have_their_form;
 pub use problem_faults::FlatFault;
 pub use text::read_flat;
 pub use writing::write_flat;
-
-#[cfg(test)]
-mod tests;

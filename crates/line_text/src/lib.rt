@@ -10,6 +10,3 @@ pub use lines::cut_line;
 pub use long::{long_at, position_at, position_in, put_long};
 pub use numerals::{number_at, put_number, put_position, size_at, size_in};
 pub use words::{bytes_at, cut_word, field_at, number_field};
-
-#[cfg(test)]
-mod tests;

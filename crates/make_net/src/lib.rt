@@ -10,6 +10,3 @@ mod nodes;
 
 pub use all_counts::each_count_makes_a_problem;
 pub use making::{MakeFault, is_count, make};
-
-#[cfg(test)]
-mod tests;

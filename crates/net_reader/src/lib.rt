@@ -8,6 +8,3 @@ mod rows;
 
 pub use network::read_net;
 pub use rows::{ArcWord, NetArc, NetNode, NetRows, NodeWord};
-
-#[cfg(test)]
-mod tests;

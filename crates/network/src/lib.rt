@@ -13,6 +13,3 @@ mod table;
 
 pub use assembly::assemble;
 pub use problem_faults::JoinFault;
-
-#[cfg(test)]
-mod tests;

@@ -12,6 +12,3 @@ pub use file_faults::ResFault;
 pub use row_form::rows_have_their_form;
 pub use rows::{ResRow, ResRows, ResWord};
 pub use table::read_res;
-
-#[cfg(test)]
-mod tests;

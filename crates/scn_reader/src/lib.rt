@@ -7,6 +7,3 @@ mod scenario;
 
 pub use rows::{ScnNode, ScnRows};
 pub use scenario::read_scn;
-
-#[cfg(test)]
-mod tests;

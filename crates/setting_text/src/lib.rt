@@ -5,8 +5,6 @@ mod entries;
 mod examples;
 mod laws;
 mod reading;
-#[cfg(test)]
-mod tests;
 mod values;
 mod writing;
 

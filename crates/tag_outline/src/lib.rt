@@ -13,6 +13,3 @@ mod tag;
 pub use file_faults::{FileFault, OutlineFault};
 pub use of_all_texts::{each_text, local_names, one_verdict};
 pub use outline::{Element, Outline, read_outline};
-
-#[cfg(test)]
-mod tests;

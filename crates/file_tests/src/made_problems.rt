@@ -1,5 +1,5 @@
-use crate::{MakeFault, make};
 use gas_model::{Allow, ArcKind, Drag, Problem};
+use make_net::{MakeFault, make};
 use std::alloc::Global;
 use std::test::Fail;
 

@@ -1,4 +1,4 @@
-use crate::{ResFault, ResRow, ResWord, read_res};
+use res_table::{ResFault, ResRow, ResWord, read_res};
 use std::test::Fail;
 
 fn numbers(row: &ResRow) -> (ResWord, i64, i64, i64) {

@@ -1,7 +1,7 @@
-use crate::{
+use base_types::Bytes;
+use line_text::{
     cut_line, cut_word, field_at, number_at, number_field, put_number, put_position, size_at,
 };
-use base_types::Bytes;
 use std::test::Fail;
 
 #[test]

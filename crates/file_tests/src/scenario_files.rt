@@ -1,4 +1,4 @@
-use crate::{ScnRows, read_scn};
+use scn_reader::{ScnRows, read_scn};
 use std::alloc::{AllocError, Global};
 use std::test::Fail;
 use tag_outline::FileFault;

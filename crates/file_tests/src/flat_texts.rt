@@ -1,4 +1,4 @@
-use crate::{FlatFault, read_flat, write_flat};
+use flat_text::{FlatFault, read_flat, write_flat};
 use gas_model::{ArcKind, Bytes, Drag, ModelFault, Problem};
 use std::alloc::Global;
 use std::test::Fail;

@@ -1,4 +1,4 @@
-use crate::{NetRows, read_net};
+use net_reader::{NetRows, read_net};
 use std::alloc::{AllocError, Global};
 use std::test::Fail;
 use tag_outline::FileFault;

@@ -1,6 +1,6 @@
-use crate::{Element, OutlineFault, read_outline};
 use std::alloc::{AllocError, Global};
 use std::test::Fail;
+use tag_outline::{Element, OutlineFault, read_outline};
 
 // Each element in a line: depth, name, place, and then its attributes.
 fn shown(alloc: Global, elements: &[Element]) -> Result<String, AllocError> {

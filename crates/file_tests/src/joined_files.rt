@@ -1,7 +1,7 @@
-use crate::{JoinFault, assemble};
 use cdf_reader::read_cdf;
 use gas_model::Problem;
 use net_reader::read_net;
+use network::{JoinFault, assemble};
 use res_table::read_res;
 use scn_reader::read_scn;
 use std::alloc::{AllocError, Global};

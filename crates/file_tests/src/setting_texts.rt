@@ -1,8 +1,8 @@
-use super::*;
 use gas_model::{
     Allow, ArcKind, ArcState, ArcText, Bytes, DecisionText, Drag, GroupText, List, ModelFault,
     Name, NoMemory, NodeRow, Problem, Rows, SetText,
 };
+use setting_text::{Key, SettingFault, read_setting, write_setting};
 use std::alloc::Global;
 use std::process::Abort;
 use std::test::Fail;

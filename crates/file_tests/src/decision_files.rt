@@ -1,4 +1,4 @@
-use crate::{CdfRows, read_cdf};
+use cdf_reader::{CdfRows, read_cdf};
 use std::alloc::{AllocError, Global};
 use std::test::Fail;
 use tag_outline::FileFault;
