@@ -12,7 +12,7 @@ use Rattle.gas_model.specs.Choices.{allowed_states}
 use Rattle.tree_cert.specs.declared.line.Head.{Head}
 use Rattle.tree_cert.specs.declared.line.Head.TheVariants.{Take, State, Half}
 use Rattle.tree_rules.specs.Rules.{PartBox}
-use Rattle.tree_rules.specs.Branches.{with_pick, headed, decision_heads}
+use Rattle.tree_rules.specs.Branches.{with_pick, decision_heads}
 use Rattle.stable_sweep.specs.Runs.{after}
 use Rattle.box_split.specs.declared.forks.Fork.{Fork}
 use Rattle.box_pool.specs.Forks.{state_heads, heads_of}

@@ -1,6 +1,5 @@
 -- Filters keep no more than a list has, and stricter ones no more than others.
-use Rattle.std.proofs.Common.{◌≡◌, ℕ, zero, suc, ◌≤◌, Bool, true, false, cond, List, [], ◌∷◌, filter, length, refl, arith}
-use Rattle.nom_search.proofs.Runs.{filter_short}
+use Rattle.std.proofs.Common.{◌≡◌, suc, ◌≤◌, Bool, true, false, cond, List, [], ◌∷◌, filter, length, refl, arith}
 
 -- a stricter test keeps no more
 one_fewer : {A : Type 0} (x : A) (xs ys : List A) (a b : Bool) → (a ≡ true → b ≡ true) → length xs ≤ length ys → length (cond a (x ∷ xs) xs) ≤ length (cond b (x ∷ ys) ys)

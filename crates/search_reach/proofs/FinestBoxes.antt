@@ -1,9 +1,8 @@
 -- A box that is split no more has no wide variable.
-use Rattle.std.proofs.Common.{◌≡◌, ℕ, ◌<◌, ◌≤◌, ◌×◌, refl, sym, ap, subst, ◌∙◌, inl, inr, arith, ℤ, pos, ◌≤ℤ◌, Bool, true, false, List, [], ◌∷◌, length, slice_index_or, Option, Some, None}
-use Rattle.std.specs.Prelude.{int_le, is_none, slice_get}
-use Rattle.std.proofs.lemmas.Bool.Decides.{int_tests}
+use Rattle.std.proofs.Common.{◌≡◌, ℕ, zero, suc, ◌≤◌, refl, sym, ◌∙◌, inl, inr, arith, ℤ, pos, ◌≤ℤ◌, false, List, [], ◌∷◌, length, slice_index_or, Option, Some, None}
+use Rattle.std.specs.Prelude.{int_le, is_none}
 use Rattle.std.proofs.lemmas.Bool.{cases_lt}
-use Rattle.integer_laws.proofs.Ring.{linear, le_or_lt}
+use Rattle.integer_laws.proofs.Ring.{linear}
 use Rattle.base_types.specs.declared.variables.Var.{Var}
 use Rattle.base_types.specs.declared.variables.Var.TheVariants.{Flow, Square}
 use Rattle.gas_model.specs.declared.rows.Ends.{Ends}
@@ -13,7 +12,7 @@ use Rattle.gas_model.specs.Rulings.{pick_in}
 use Rattle.gas_model.specs.Boxes.{Bounds, BoxFits, no_ends, ends_of, width_of}
 use Rattle.topo.specs.States.{fixed_at}
 use Rattle.box_split.specs.declared.forks.Fork.{Fork}
-use Rattle.box_split.specs.declared.forks.Fork.TheVariants.{Group, Free, Halve, Least}
+use Rattle.box_split.specs.declared.forks.Fork.TheVariants.{Group, Free, Least}
 use Rattle.box_split.specs.Forks.{first, if_none, is_wide, at_turn, halved, after, round, start, fork_of}
 use Rattle.box_split.specs.Parts.{other_fork, halving}
 use Rattle.box_split.proofs.Firsts.{all_false}
@@ -52,11 +51,11 @@ none_is_wide p split part b turn e =
 
 -- ---- so each variable is at most one unit wide
 not_wide : (w : ℤ) → int_le (pos 2) w ≡ false → w ≤ℤ pos 1
-not_wide w e = grind (arith, int_tests)
+not_wide w e = omega (arith, linear, e)
 
 past : (xs : List Ends) (i : ℕ) → length xs ≤ i → slice_index_or xs i no_ends ≡ no_ends
 past [] i le = refl
-past (x ∷ xs) 0 le = absurd (omega arith)
+past (x ∷ xs) zero le = absurd (omega arith)
 past (x ∷ xs) (suc i) le = past xs i (omega arith)
 
 pub at_most_one : (p : Network) (b : Bounds) → BoxFits p b → NoneIsWide p b → (v : Var) → width_of (ends_of b v) ≤ℤ pos 1

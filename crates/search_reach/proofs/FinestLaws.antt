@@ -1,24 +1,22 @@
 -- Where a search halts for want of a finer grid, each variable of each box that is left open is at most one sixteenth wide.
-use Rattle.std.proofs.Common.{◌≡◌, ℕ, refl, sym, ap, subst, ◌∙◌, arith, ℤ, pos, ◌≤ℤ◌, List, [], ◌∷◌, Some, length}
+use Rattle.std.proofs.Common.{◌≡◌, ℕ, refl, sym, ap, subst, ◌∙◌, ℤ, List, [], ◌∷◌, Some}
 use Rattle.std.specs.Prelude.{slice_get}
-use Rattle.base_types.specs.declared.variables.Var.{Var}
 use Rattle.gas_model.specs.Rows.{Network}
 use Rattle.gas_model.specs.Boxes.{BoxFits}
 use Rattle.gas_model.proofs.BoxFacts.{opening_fits}
 use Rattle.tree_cert.specs.declared.line.Head.{Head}
 use Rattle.tree_cert.specs.declared.line.Head.TheVariants.{Take, State, Half}
 use Rattle.tree_cert.specs.declared.line.Step.{Step}
-use Rattle.tree_rules.specs.Rules.{PartBox}
+use Rattle.tree_rules.specs.Rules.{PartBox, stepped}
 use Rattle.tree_rules.specs.Branches.{headed, root_box}
 use Rattle.tree_pool.specs.Rows.{Row, Standing, Quit}
-use Rattle.stable_sweep.specs.Runs.{after, stepped}
-use Rattle.search_order.specs.Searches.{KnownAt, IsKnown}
+use Rattle.stable_sweep.specs.Runs.{after}
+use Rattle.search_order.specs.Searches.{KnownAt}
 use Rattle.box_pool.specs.Grid.{pool_scale}
-use Rattle.nom_search.specs.declared.searching.Why.{Why}
 use Rattle.nom_search.specs.declared.searching.Why.TheVariants.{Budget, Grid}
 use Rattle.nom_search.specs.Halted.{Halted}
 use Rattle.nom_search.specs.Sought.{sought}
-use Rattle.search_reach.specs.Finest.{IsFinest, LeftAreFinest, LeftBoxesAreFinest}
+use Rattle.search_reach.specs.Finest.{IsFinest, LeftBoxesAreFinest}
 use Rattle.search_reach.specs.Widths.{heads_to}
 use Rattle.search_reach.proofs.FinestBoxes.{none_is_wide, at_most_one}
 use Rattle.search_reach.proofs.StepPairs.{after_fits}

@@ -1,19 +1,17 @@
 -- Two equal pipes that share a flow of 1.
-use Rattle.std.proofs.Common.{◌≡◌, ℕ, zero, suc, refl, subst, arith, ℤ, pos, ◌≤ℤ◌, Bool, true, List, [], ◌∷◌, Option, Some, None, IsTrue}
-use Rattle.std.specs.Prelude.{slice_get}
+use Rattle.std.proofs.Common.{◌≡◌, ℕ, zero, suc, refl, subst, arith, pos, ◌≤ℤ◌, List, [], ◌∷◌, Some, IsTrue}
+use Rattle.std.specs.Prelude.{slice_get, codes}
+use borrow.Author.Tests.{ltb-true}
 use Rattle.integer_laws.proofs.Ring.{linear}
 use Rattle.base_types.specs.declared.variables.Var.{Var}
 use Rattle.base_types.specs.declared.variables.Var.TheVariants.{Flow, Square}
 use Rattle.base_types.specs.declared.states.ArcState.{ArcState}
 use Rattle.base_types.specs.declared.states.ArcState.TheVariants.{Opened}
 use Rattle.gas_model.specs.declared.rows.ArcRow.{ArcRow}
-use Rattle.gas_model.specs.declared.rows.NodeRow.{NodeRow}
 use Rattle.gas_model.specs.Boxes.{Contains}
 use Rattle.gas_model.specs.Choices.{IsListed, may_be}
 use Rattle.gas_model.specs.Points.{Meets, keeps_flow, keeps_square, balances, meets_arc, state_at}
-use Rattle.tree_rules.specs.Theorems.{Agrees}
-use Rattle.search_reach.specs.Finest.{IsFinest}
-use Rattle.search_reach.specs.SharedFlow.{equal_pipes, half_each, quarters, SharedFlow}
+use Rattle.search_reach.specs.SharedFlow.{plain_pipe, equal_pipes, half_each, quarters, SharedFlow}
 use Rattle.search_reach.specs.Widths.{width_in}
 
 -- what holds of both items of a list of two
@@ -33,11 +31,17 @@ narrow (Square (suc (suc n))) = omega (arith, linear)
 abbrev opened : List ArcState
 opened = Opened ∷ Opened ∷ []
 
+abbrev first_pipe : ArcRow
+first_pipe = plain_pipe (codes "p")
+
+abbrev second_pipe : ArcRow
+second_pipe = plain_pipe (codes "r")
+
 may_be_open : (a : ℕ) (row : ArcRow) → slice_get equal_pipes.arcs a ≡ Some row → (state : ArcState) → slice_get opened a ≡ Some state → IsTrue (may_be equal_pipes [] a row state)
 may_be_open =
-    of_both (λ a row. (state : ArcState) → slice_get opened a ≡ Some state → IsTrue (may_be equal_pipes [] a row state)) _ _
-    (λ state e. let same : Opened ≡ state = cc in subst (λ s. IsTrue (may_be equal_pipes [] 0 _ s)) same refl)
-    (λ state e. let same : Opened ≡ state = cc in subst (λ s. IsTrue (may_be equal_pipes [] 1 _ s)) same refl)
+    of_both (λ a row. (state : ArcState) → slice_get opened a ≡ Some state → IsTrue (may_be equal_pipes [] a row state)) first_pipe second_pipe
+    (λ state e. let same : Opened ≡ state = cc in subst (λ s. IsTrue (may_be equal_pipes [] 0 first_pipe s)) same refl)
+    (λ state e. let same : Opened ≡ state = cc in subst (λ s. IsTrue (may_be equal_pipes [] 1 second_pipe s)) same refl)
 
 listed : IsListed equal_pipes [] opened
 listed = record {
@@ -54,10 +58,10 @@ none_named (suc (suc a)) state e = absurd cc
 inside : Contains half_each.scale half_each.bounds quarters
 inside (Flow zero) h = record { above = omega (arith, linear); below = omega (arith, linear) }
 inside (Flow (suc zero)) h = record { above = omega (arith, linear); below = omega (arith, linear) }
-inside (Flow (suc (suc a))) h = absurd cc
+inside (Flow (suc (suc a))) h = absurd (omega (arith, ltb-true (suc (suc a)) 2 h))
 inside (Square zero) h = record { above = omega (arith, linear); below = omega (arith, linear) }
 inside (Square (suc zero)) h = record { above = omega (arith, linear); below = omega (arith, linear) }
-inside (Square (suc (suc n))) h = absurd cc
+inside (Square (suc (suc n))) h = absurd (omega (arith, ltb-true (suc (suc n)) 2 h))
 
 meets : Meets equal_pipes opened quarters
 meets = record {

@@ -1,18 +1,15 @@
 -- The children of a branch are no wider than the box that is split.
-use Rattle.std.proofs.Common.{◌≡◌, ℕ, zero, suc, ap, ◌∙◌, subst, ◌⊎◌, inl, inr, arith, ℤ, ◌≤ℤ◌, Bool, true, false, cond, not, ◌&&◌, IsTrue, List, [], ◌∷◌, map, Option, Some, None, option_map, is_some, get_or-set_same}
+use Rattle.std.proofs.Common.{◌≡◌, ℕ, zero, suc, ap, ◌∙◌, subst, inl, inr, arith, ℤ, ◌≤ℤ◌, Bool, true, false, cond, not, ◌&&◌, IsTrue, List, [], ◌∷◌, map, Option, Some, None, option_map, is_some}
 use Rattle.std.specs.Prelude.{slice_get, option_and_then, int_lt}
 use Rattle.std.proofs.lemmas.Bool.{and_parts}
-use Rattle.std.proofs.lemmas.Bool.Decides.{eqb_tells}
-use borrow.Author.Tests.{ltb-true}
 use Rattle.integer_laws.proofs.Ring.{linear}
 use Rattle.gas_model.specs.declared.rows.ArcRow.{ArcRow}
 use Rattle.gas_model.specs.declared.rows.Ends.{Ends}
 use Rattle.base_types.specs.declared.variables.Var.{Var}
-use Rattle.base_types.specs.declared.variables.Var.TheVariants.{Flow, Square}
 use Rattle.gas_model.specs.Rows.{Network}
 use Rattle.gas_model.specs.Rulings.{is_free, pick_in}
 use Rattle.gas_model.specs.Choices.{allowed_states}
-use Rattle.gas_model.specs.Boxes.{Bounds, BoxFits, no_ends, ends_of, is_var, is_in_box, width_of, with_end, tightened}
+use Rattle.gas_model.specs.Boxes.{Bounds, BoxFits, ends_of, is_var, is_in_box, width_of, with_end, tightened}
 use Rattle.gas_model.proofs.BoxFacts.{tightened_fits, in_box}
 use Rattle.tree_cert.specs.declared.line.Head.{Head}
 use Rattle.tree_cert.specs.declared.line.Head.TheVariants.{Take, State, Half}

@@ -1,9 +1,7 @@
 -- On the way to each box of a search a variable is tightened at most 320 times.
 use Rattle.std.proofs.Common.{◌≡◌, ℕ, sym, subst, inl, inr, ℤ, List, Some}
 use Rattle.std.specs.Prelude.{slice_get}
-use Rattle.std.proofs.lemmas.List.{length-map}
 use Rattle.gas_model.specs.Rows.{Network}
-use Rattle.gas_model.specs.Boxes.{BoxFits, opening, flow_ends, square_ends}
 use Rattle.gas_model.specs.Within.{IsWithin}
 use Rattle.tree_cert.specs.declared.line.Step.{Step}
 use Rattle.tree_rules.specs.Rules.{PartBox}

@@ -1,11 +1,10 @@
 -- How the steps and the halves of a search change the widths of variables.
-use Rattle.std.proofs.Common.{◌≡◌, ℕ, ap, ◌∙◌, sym, ◌⊎◌, inl, inr, arith, ℤ, pos, ◌+ℤ◌, ◌-ℤ◌, ◌*ℤ◌, ◌≤ℤ◌, Bool, true, false, IsTrue, List, [], ◌∷◌, get_or, length, zero, suc, refl, get_or-set_same, eqb-true, eq-eqb}
+use Rattle.std.proofs.Common.{◌≡◌, ℕ, ap, ◌∙◌, sym, ◌⊎◌, inl, inr, arith, ℤ, pos, ◌+ℤ◌, ◌-ℤ◌, ◌*ℤ◌, ◌≤ℤ◌, Bool, true, false, IsTrue, List, [], ◌∷◌, get_or, length, zero, suc, refl, eq-eqb}
 use Rattle.std.specs.Prelude.{int_le, nat_lt}
 use Rattle.std.proofs.lemmas.Bool.{and_parts}
 use Rattle.std.proofs.lemmas.Bool.Decides.{eqb_tells, nat_tests}
 use Rattle.std.proofs.lemmas.Int.{ints}
 use Rattle.std.specs.Int.{int_rem_euclid}
-use borrow.Author.Tests.{ltb-true}
 use Rattle.integer_laws.proofs.Ring.{linear, mul_add, mul_one}
 use Rattle.gas_units.proofs.Quotients.{euclid_divides}
 use Rattle.gas_model.specs.declared.rows.Ends.{Ends}
@@ -24,8 +23,6 @@ use Rattle.stable_sweep.specs.Runs.{after, AreTurns, IsTurn}
 use Rattle.box_ends.specs.Middle.{middle}
 use Rattle.box_split.specs.Forks.{is_wide}
 use Rattle.stable_sweep.proofs.StepCounts.{tightened_here}
-use Rattle.box_split.proofs.Others.{var_of}
-use Rattle.search_reach.proofs.StepPairs.{after_fits}
 
 -- ---- one variable or another
 pub either_var : (v w : Var) → (v ≡ w) ⊎ (v ≡ w → ⊥)

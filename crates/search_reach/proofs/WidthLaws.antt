@@ -1,6 +1,6 @@
 -- Where a search halts, the halvings of a variable are few on the way to each box; where it stops for want of budget, the
 -- box that it names is narrow.
-use Rattle.std.proofs.Common.{◌≡◌, ℕ, suc, ◌<◌, ◌≤◌, ◌*◌, ◌^◌, refl, sym, ap, subst, ◌∙◌, inl, inr, arith, Bool, true, false, ◌||◌, List, [], ◌∷◌, Some, length, get_or, ℤ, pos, ◌-ℤ◌, ◌*ℤ◌, ◌≤ℤ◌}
+use Rattle.std.proofs.Common.{◌≡◌, ℕ, ◌≤◌, ◌*◌, ◌^◌, refl, sym, ap, subst, ◌∙◌, inl, inr, arith, true, List, Some, length, get_or, ℤ, pos, ◌-ℤ◌, ◌*ℤ◌, ◌≤ℤ◌}
 use Rattle.std.specs.List.{list_any}
 use Rattle.std.proofs.Math.Nat.{pow-le-pow_right}
 use Rattle.std.proofs.lemmas.Nat.{pow_pos}
@@ -9,9 +9,8 @@ use Rattle.gas_model.specs.declared.rows.PartState.{PartState}
 use Rattle.base_types.specs.declared.variables.Var.{Var}
 use Rattle.std.specs.Prelude.{slice_get}
 use Rattle.std.proofs.lemmas.Option.{slice_get_within}
-use Rattle.std.proofs.lemmas.List.{length-map}
 use Rattle.gas_model.specs.Rows.{Network}
-use Rattle.gas_model.specs.Boxes.{BoxFits, opening, flow_ends, square_ends}
+use Rattle.gas_model.specs.Boxes.{BoxFits}
 use Rattle.topo.specs.Shapes.{Layout, IsShapeOf}
 use Rattle.tree_cert.specs.declared.line.Head.{Head}
 use Rattle.tree_rules.specs.Rules.{PartBox}
@@ -35,7 +34,7 @@ use Rattle.search_reach.proofs.WidthHalves.{count, Shrunk, shrunk, narrower, hal
 use Rattle.search_reach.proofs.WidthRounds.{rounds_give}
 use Rattle.search_reach.proofs.WidthTurns.{in_turn}
 use Rattle.gas_model.proofs.BoxFacts.{opening_fits}
-use Rattle.box_split.proofs.Others.{var_of, place_in}
+use Rattle.box_split.proofs.Others.{place_in}
 
 few_halvings_in : (p : Network) (tol : ℤ) (rows : List Row) (boxes : List PartBox) (turns : List ℕ) → IsMap rows → IsOf (rules_of p) (root_box pool_scale p) rows boxes → SplitsAreKnown p tol rows boxes turns → HalvingsAreFewIn p rows
 few_halvings_in p tol rows boxes turns map pool known n r here v m at_most =

@@ -1,6 +1,5 @@
 -- Two equal pipes that share a flow of 1: a point that no whole numbers give, alone in a box that can't be split.
 use Rattle.std.specs.Prelude.{ℕ, ◌==◌, ℤ, pos, negsuc, List, [], ◌∷◌, codes, None, if◌then◌else◌}
-use Rattle.base_types.specs.declared.states.ArcState.{ArcState}
 use Rattle.base_types.specs.declared.states.ArcState.TheVariants.{Opened}
 use Rattle.gas_model.specs.declared.rows.ArcRow.{ArcRow}
 use Rattle.gas_model.specs.declared.rows.ArcKind.TheVariants.{Pipe}
