@@ -1,5 +1,6 @@
 // What is decided of small problems.
 ghost use Rattle.std.specs.Prelude.{◌≤◌, ◌^◌};
+
 use crate::examples::{APART, HALVES, LAST_GROUP, LOOP};
 use decide::{Found, Why, decide};
 use flat_text::read_flat;
