@@ -13,6 +13,7 @@ import time
 import unittest
 from dataclasses import dataclass
 from pathlib import Path
+from typing import Callable
 
 from tests.support import EXAMPLES, PROGRAM, FolderTest, needs_program
 
@@ -340,16 +341,20 @@ class PipeTest(HostileTest):
         os.mkfifo(self.folder / 'pipe')
         (self.folder / 'pipe').chmod(0o666)
 
-    def feed(self, *pieces: bytes) -> threading.Thread:
+    def beside(self, work: Callable[[], object]) -> threading.Thread:
+        """Starts the other end; a program that never comes to the pipe doesn't hold up the tests."""
+        thread = threading.Thread(target=work, daemon=True)
+        thread.start()
+        self.addCleanup(thread.join, 10)
+        return thread
+
+    def feed(self, *pieces: bytes) -> None:
         def write() -> None:
             with open(self.folder / 'pipe', 'wb', buffering=0) as pipe:
                 for piece in pieces:
                     pipe.write(piece)
                     time.sleep(0.02)
-        thread = threading.Thread(target=write)
-        thread.start()
-        self.addCleanup(thread.join)
-        return thread
+        self.beside(write)
 
     def test_an_input_in_pieces(self) -> None:
         text = self.held('two_nodes.flat')
@@ -365,24 +370,22 @@ class PipeTest(HostileTest):
 
     def test_out_is_read(self) -> None:
         got: list[bytes] = []
-        thread = threading.Thread(target=lambda: got.append(self.held('pipe')))
-        thread.start()
+        thread = self.beside(lambda: got.append(self.held('pipe')))
         self.answered('accepted', 0, 'solve-flat', 'two_nodes.flat', 'pipe')
-        thread.join()
+        thread.join(10)
         self.assertEqual(got, [SETTING])
 
     def test_out_is_left_by_its_reader(self) -> None:
         def leave() -> None:
             with open(self.folder / 'pipe', 'rb') as pipe:
                 pipe.read(1)
-        thread = threading.Thread(target=leave)
-        thread.start()
+        self.beside(leave)
         self.answered('', 74, 'make', 2000, 'pipe')
-        thread.join()
 
     def test_waits_for_the_other_end(self) -> None:
         started = subprocess.Popen([self.program, 'solve-flat', 'pipe', 'out'], cwd=self.folder, stdout=subprocess.PIPE)
         self.addCleanup(started.stdout.close)
+        self.addCleanup(started.kill)
         with self.assertRaises(subprocess.TimeoutExpired):
             started.wait(0.3)
         self.feed(self.held('two_nodes.flat'))
