@@ -311,6 +311,31 @@ class SharedTest(HostileTest):
         self.answered('bad scn wrong root', 65, 'flat', *['network.net'] * 4, 'network.net')
 
 
+def nested_halvings(nodes: int, depth: int) -> tuple[str, int]:
+    """A tree in sixteenths in which each lower half is halved again, down to this depth, and each box is left open; and
+    the number of its first open line."""
+    lines, upper, node, low, high = ['gastree 2'], [], 0, 0, 16 * 10 ** 16
+    for _ in range(depth):
+        if high - low < 2:
+            node, high = node + 1, 16 * 10 ** 16
+        middle = (low + high) // 2
+        lines += [f'halve s{node}', f'half s{node} hi {middle}']
+        upper += ['open', f'half s{node} lo {middle}']
+        high = middle
+    assert node < nodes
+    return '\n'.join([*lines, 'open', *reversed(upper), 'end', '']), len(lines) + 1
+
+
+class NestedTest(HostileTest):
+    def test_a_hundred_thousand_halvings(self) -> None:
+        nodes = 2000
+        problem = ''.join(f'node n{place} 0 100000000 0 0\n' for place in range(nodes))
+        text, line = nested_halvings(nodes, 100_000)
+        (self.folder / 'wide.flat').write_text(f'gasflat 1\n{problem}end\n')
+        (self.folder / 'deep.tree').write_text(text)
+        self.answered(f'not refutation open line {line}', 3, 'check-flat', 'wide.flat', 'deep.tree')
+
+
 class NameTest(HostileTest):
     def test_not_utf_8(self) -> None:
         for odd in (b'\xff', b'out\x80', b'\xc0\xaf', b'\xed\xa0\x80'):
