@@ -1,0 +1,10 @@
+pub mod Computed
+pub mod ArcReads
+pub mod Shapes
+pub mod FlowReads
+pub mod StepReads
+pub mod ClosingReads
+pub mod Walk
+pub mod TreeCores
+pub mod CoresSound
+pub mod CoreTextsSound

@@ -1,0 +1,3 @@
+pub mod DrawnNear
+pub mod Halving
+pub mod Narrowing
