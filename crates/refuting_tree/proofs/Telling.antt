@@ -1,15 +1,13 @@
 -- What the checker answers is what is told.
-use Rattle.std.proofs.Common.{◌≡◌, ◌≢◌, ℕ, List, Ok, Err, refl, sym}
+use Rattle.std.proofs.Common.{◌≡◌, ℕ, List, Ok, Err}
 use Rattle.gas_model.specs.Rows.{Network}
 use Rattle.tree_cert.specs.declared.fault.FaultKind.TheVariants as kind
-use Rattle.tree_cert.specs.declared.fault.TreeFault.{TreeFault}
-use Rattle.tree_cert.specs.declared.fault.TreeFault.TheVariants as tree_fault
 use Rattle.tree_cert.specs.Texts.{Finding, Refutes, Partial, Fails}
 use Rattle.tree_check.specs.declared.verdict.Verdict.TheVariants as verdict
-use Rattle.tree_check.specs.Verdicts.{Answers, IsAnswered, IsAnswerTo, answer_to}
+use Rattle.tree_check.specs.Verdicts.{IsAnswered, answer_to}
 use Rattle.refuting_tree.specs.declared.fault.RefutingFault.{RefutingFault}
 use Rattle.refuting_tree.specs.declared.fault.RefutingFault.TheVariants.{Tree, LeftOpen, NoMemory}
-use Rattle.refuting_tree.specs.Refusals.{IsRefusal, Tells, IsSaid}
+use Rattle.refuting_tree.specs.Refusals.{Tells, IsSaid}
 
 whole : (f : Finding) → Ok verdict.Refutes ≡ answer_to f → Tells {A = Unit {0}} f (Ok tt)
 whole Refutes e = tt

@@ -2,7 +2,6 @@
 use Rattle.std.specs.Prelude.{◌≡◌, ℕ, List, Result, Ok, Err}
 use Rattle.gas_model.specs.Rows.{Network}
 use Rattle.tree_cert.specs.declared.fault.FaultKind.{FaultKind}
-use Rattle.tree_cert.specs.declared.fault.TreeFault.{TreeFault}
 use Rattle.tree_cert.specs.declared.fault.TreeFault.TheVariants as tree_fault
 use Rattle.tree_cert.specs.Texts.{Finding, Refutes, Partial, Fails, IsFinding, PassesPartText, PassesWholeText}
 use Rattle.tree_check.specs.Verdicts.{Answers, answer_to}

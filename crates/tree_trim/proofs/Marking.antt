@@ -94,12 +94,12 @@ one_tried g ls k before after t (out, e, mark) =
     let rest = kept_of behind t.done in
     let set_true : slice_set before k true ≡ replicate k false ++ (true ∷ t.done) = ap (λ z. slice_set z k true) t.is ∙ set_at k t.done true in
     let without : kept_of ls (slice_set before k true) ≡ front ++ rest =
-        ap (kept_of ls) set_true ∙ kept_front k ls (true ∷ t.done) (omega (arith, t.within)) ∙ ap (λ z. front ++ kept_of z (true ∷ t.done)) parts.1 in
+    ap (kept_of ls) set_true ∙ kept_front k ls (true ∷ t.done) (omega (arith, t.within)) ∙ ap (λ z. front ++ kept_of z (true ∷ t.done)) parts.1 in
     let inner : IsTrimmed g (front ++ l ∷ []) behind rest = subst (λ z. IsTrimmed g z behind rest) parts.0 t.trimmed in
     let here : IsKept g front l rest (cond out rest (l ∷ rest)) =
-        kept_is g front l rest out
-        (λ o. let h = mark.goes o in (h.0, one_same ls k l h.0 found.1 h.1, subst (PassesWhole g) without h.2))
-        (λ o s is passes. mark.stays o s (found.1 ∙ ap Some is) (subst (PassesWhole g) (sym without) passes)) in
+    kept_is g front l rest out
+    (λ o. let h = mark.goes o in (h.0, one_same ls k l h.0 found.1 h.1, subst (PassesWhole g) without h.2))
+    (λ o s is passes. mark.stays o s (found.1 ∙ ap Some is) (subst (PassesWhole g) (sym without) passes)) in
     record {
       within = omega (arith, t.within);
       done = out ∷ t.done;

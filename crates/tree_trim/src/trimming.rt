@@ -50,12 +50,7 @@ fn refutes(alloc: Global, p: &Problem, text: &[u8]) -> Result<bool, NoMemory>
 }
 
 // Whether the lines that aren't left out pass.
-fn pass(
-    alloc: Global,
-    p: &Problem,
-    lines: &[Line],
-    left_out: &[bool],
-) -> Result<bool, NoMemory>
+fn pass(alloc: Global, p: &Problem, lines: &[Line], left_out: &[bool]) -> Result<bool, NoMemory>
     requires ordered { list_all has_ordered_cut lines.now ≡ true }
     requires marks { length left_out.now ≡ length lines.now }
     ensures { IfOk result (λ goes. IsTrue goes ↔ PassesWhole (rules_of p.now) (kept_of lines.now left_out.now)) }
