@@ -1,0 +1,5 @@
+//! Examples of trimmed trees, by public calls.
+#![tactic(auto)]
+
+#[cfg(test)]
+mod trimming;
